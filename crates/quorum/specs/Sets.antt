@@ -1,0 +1,35 @@
+-- Sets of boxes. A set is a number whose bit i stands for box i. Assumes nothing.
+use mathlib.Core.Bool.{Bool}
+use mathlib.Core.Path.{_≡_}
+use mathlib.Core.Bool.{true, false}
+use Prim.Native.Nat.{ℕ, _-_, _/_, _%_, _^_, _≤_}
+use lib.Bits.{bitOr}
+use lib.Count.{ones}
+use lib.Dec.{eqb, ltb}
+
+-- box i is in the set
+abbrev pub has : ℕ → ℕ → Bool
+has s i = eqb (s / 2 ^ i % 2) 1
+
+-- how many boxes the set has
+abbrev pub count : ℕ → ℕ
+count s = ones s
+
+-- all of n boxes
+abbrev pub everyone : ℕ → ℕ
+everyone n = 2 ^ n - 1
+
+-- the set has no bit at n or above; `Below` says so bit by bit
+abbrev pub within : ℕ → ℕ → Bool
+within n s = ltb s (2 ^ n)
+
+abbrev pub NoneAbove : ℕ → ℕ → Type 0
+NoneAbove n s = (i : ℕ) → n ≤ i → has s i ≡ false
+
+-- the set with box i added
+abbrev pub added : ℕ → ℕ → ℕ
+added s i = bitOr s (2 ^ i)
+
+-- every box of s is in t
+abbrev pub _⊆_ : ℕ → ℕ → Type 0
+_⊆_ s t = (i : ℕ) → has s i ≡ true → has t i ≡ true

@@ -1,0 +1,3 @@
+// Sets of boxes, the refusals of every layer, and the rules that say which sets are quorums.
+pub mod refusals;
+pub mod sets;
