@@ -1,2 +1,5 @@
+pub mod Families
+pub mod Making
 pub mod Refusals
+pub mod Rules
 pub mod Sets

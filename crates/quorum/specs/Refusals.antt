@@ -44,3 +44,8 @@ Answers None P (Ok x) = P x
 Answers None P (Err f) = ⊥
 Answers (Some g) P (Ok x) = ⊥
 Answers (Some g) P (Err f) = f ≡ g
+
+-- the reason of the first check, and else that of the second
+abbrev pub either : {F : Type 0} → Option F → Option F → Option F
+either None g = g
+either (Some f) g = Some f

@@ -1,7 +1,6 @@
 -- Sets of boxes. A set is a number whose bit i stands for box i. Assumes nothing.
-use mathlib.Core.Bool.{Bool}
+use mathlib.Core.Bool.{Bool, true, false}
 use mathlib.Core.Path.{_≡_}
-use mathlib.Core.Bool.{true, false}
 use Prim.Native.Nat.{ℕ, _-_, _/_, _%_, _^_, _≤_}
 use lib.Bits.{bitOr}
 use lib.Count.{ones}
@@ -19,7 +18,7 @@ count s = ones s
 abbrev pub everyone : ℕ → ℕ
 everyone n = 2 ^ n - 1
 
--- the set has no bit at n or above; `Below` says so bit by bit
+-- the set has no bit at n or above; `NoneAbove` says so bit by bit
 abbrev pub within : ℕ → ℕ → Bool
 within n s = ltb s (2 ^ n)
 
@@ -31,5 +30,5 @@ abbrev pub added : ℕ → ℕ → ℕ
 added s i = bitOr s (2 ^ i)
 
 -- every box of s is in t
-abbrev pub _⊆_ : ℕ → ℕ → Type 0
-_⊆_ s t = (i : ℕ) → has s i ≡ true → has t i ≡ true
+abbrev pub Part : ℕ → ℕ → Type 0
+Part s t = (i : ℕ) → has s i ≡ true → has t i ≡ true

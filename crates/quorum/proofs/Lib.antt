@@ -1,0 +1,4 @@
+pub mod Counts
+pub mod Fitting
+pub mod Laws
+pub mod Members
