@@ -8,7 +8,7 @@ use crate::rules::Rule;
 use crate::sets::BoxSet;
 use crate::sets::contains;
 
-#[derive(Drop)]
+#[derive(Clone, Copy, Drop)]
 pub struct Anchored<R> {
     rule: R,
     anchor: usize,

@@ -6,7 +6,7 @@ use crate::rules::Rule;
 use crate::sets::BoxSet;
 use crate::sets::all_below;
 
-#[derive(Drop)]
+#[derive(Clone, Copy, Drop)]
 pub struct AllPresent<R> {
     rule: R,
 }
