@@ -1,0 +1,17 @@
+// Worked examples of the definitions, and tests of the calls.
+ghost use mathlib.Core.Path.{_≡_};
+ghost use lib.ListN.{length};
+ghost use Rattle.trials.specs.Worked.{computed, expected};
+
+#[cfg(test)]
+mod rules;
+#[cfg(test)]
+mod setups;
+
+// The worked examples: each is computed from the definitions and is what it should be. Answers how many there are.
+pub fn worked_examples() -> usize
+    ensures agree { λ _. ⌜ computed ≡ expected ⌝ }
+    ensures count { λ r. ⌜ r ≡ length expected ⌝ }
+{
+    6
+}
