@@ -13,6 +13,7 @@ use lib.Pow.{pow-pos, pow-mono, shr-le, shr-shr}
 use borrow.Author.Tests.{eqb-false}
 use Rattle.std.specs.Orderings.{Decides}
 use Rattle.std.proofs.shelf.Tests.{both-ways, cases-lt, eq-eqb, le-ltb, lt-ltb, ltb-true, ne-eqb}
+use Rattle.std.proofs.shelf.Ways.{decides-at}
 use Rattle.quorum.specs.Sets.{everyone, has, within, NoneAbove}
 
 -- a set below 2 ^ n has no box at n or above
@@ -47,8 +48,18 @@ within-shr n s = go (cases-lt s (2 ^ n))
         ne-eqb _ 0 (λ e. omega arith) ∙ sym (le-ltb s (2 ^ n) h)
 
 -- `within` says what its words say
-pub within-decides : (k n s : ℕ) → s < 2 ^ k → Decides (within n s) (NoneAbove n s)
+within-decides : (k n s : ℕ) → s < 2 ^ k → Decides (within n s) (NoneAbove n s)
 within-decides k n s h = (λ e i le. has-past n s i (ltb-true s (2 ^ n) e) le, λ none. lt-ltb s (2 ^ n) (below-from-none k n s h none))
+
+-- what a set of k boxes at most has at n and above
+pub record Strangers (n s r : ℕ) : Type 0 where
+  pub value : r ≡ s / 2 ^ n
+  pub none : eqb r 0 ≡ within n s
+  pub bits : Decides (eqb r 0) (NoneAbove n s)
+
+pub strangers : (k n s r : ℕ) → s < 2 ^ k → r ≡ s / 2 ^ n → Strangers n s r
+strangers k n s r h e =
+    let same = ap (λ (q : ℕ). eqb q 0) e ∙ within-shr n s in record { value = e; none = same; bits = decides-at _ _ same (within-decides k n s h) }
 
 or-digit : (d e : ℕ) → d < 2 → e < 2 → eqb (bitOr d e) 1 ≡ (eqb d 1 || eqb e 1)
 or-digit zero zero g h = refl

@@ -4,7 +4,7 @@ ghost use Rattle.quorum.specs.Making.{no-roster};
 ghost use Rattle.quorum.specs.Refusals.{Answers};
 ghost use Rattle.quorum.specs.Rules.{Roster as Sized};
 use crate::refusals::RuleFault;
-use crate::sets::MOST;
+use crate::sets::MAX_BOXES;
 
 #[derive(Clone, Copy)]
 pub struct Roster {
@@ -16,7 +16,7 @@ impl Roster {
     pub fn new(boxes: usize) -> Result<Roster, RuleFault>
         ensures { λ r. ⌜ Answers (no-roster boxes) (λ x. x .boxes ≡ boxes) r ⌝ }
     {
-        if boxes >= 1 && boxes <= MOST {
+        if boxes >= 1 && boxes <= MAX_BOXES {
             Ok(Roster { boxes })
         } else {
             Err(RuleFault::Roster)

@@ -20,7 +20,7 @@ pub trait Rule {
         ensures { λ r. ⌜ r ≡ family (now (self .entry)) .quorum set ⌝ };
 }
 
-// A rule that also says which sets are clear: large enough to tell, of any two quorums, what both said.
+// A rule that also says which sets are clear: one shares a box with any two quorums at once.
 pub trait ClearView: Rule {
     ghost clear: { Self → ℕ → Bool };
 
