@@ -2,3 +2,4 @@ pub mod Counts
 pub mod Fitting
 pub mod Laws
 pub mod Members
+pub mod Tallies

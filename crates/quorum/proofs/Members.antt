@@ -8,13 +8,13 @@ use native.Mathlib.Numerals.{one-add}
 use native.Mathlib.Omega.{arith}
 use lib.Arith.{lt-one}
 use lib.Bits.{bitOr, or-shr, or-mod}
-use lib.Dec.{eqb, lit<}
-use lib.Pow.{pow-pos, pow-mono, shr-le, shr-shr}
+use lib.Dec.{eqb, lit<, ltb}
+use lib.Pow.{ones-lt, pow-pos, pow-mono, shr-le, shr-shr}
 use borrow.Author.Tests.{eqb-false}
 use Rattle.std.specs.Orderings.{Decides}
 use Rattle.std.proofs.shelf.Tests.{both-ways, cases-lt, eq-eqb, le-ltb, lt-ltb, ltb-true, ne-eqb}
 use Rattle.std.proofs.shelf.Ways.{decides-at}
-use Rattle.quorum.specs.Sets.{everyone, has, within, NoneAbove}
+use Rattle.quorum.specs.Sets.{everyone, has, within, AllBelow, NoneAbove}
 
 -- a set below 2 ^ n has no box at n or above
 pub has-past : (n s i : ℕ) → s < 2 ^ n → n ≤ i → has s i ≡ false
@@ -94,3 +94,10 @@ has-below n s i h e = go (cases-lt i n)
     go : ((i < n) ⊎ (n ≤ i)) → i < n
     go (inl lt) = lt
     go (inr le) = absurd (both-ways (has s i) (has-past n s i h le) e)
+
+pub everyone-below : (n : ℕ) → AllBelow n (everyone n)
+everyone-below n i = go (cases-lt i n)
+  where
+    go : ((i < n) ⊎ (n ≤ i)) → has (everyone n) i ≡ ltb i n
+    go (inl lt) = has-everyone n i lt ∙ sym (lt-ltb i n lt)
+    go (inr le) = has-past n (everyone n) i (ones-lt n) le ∙ sym (le-ltb i n le)

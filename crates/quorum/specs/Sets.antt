@@ -1,7 +1,7 @@
 -- Sets of boxes. A set is a number whose bit i stands for box i. Assumes nothing.
-use mathlib.Core.Bool.{Bool, true, false}
+use mathlib.Core.Bool.{Bool, true, false, cond}
 use mathlib.Core.Path.{_≡_}
-use Prim.Native.Nat.{ℕ, _-_, _/_, _%_, _^_, _≤_}
+use Prim.Native.Nat.{ℕ, zero, suc, _+_, _-_, _/_, _%_, _^_, _≤_}
 use lib.Bits.{bitOr}
 use lib.Count.{ones}
 use lib.Dec.{eqb, ltb}
@@ -10,15 +10,23 @@ use lib.Dec.{eqb, ltb}
 abbrev pub has : ℕ → ℕ → Bool
 has s i = eqb (s / 2 ^ i % 2) 1
 
--- how many boxes the set has
+-- how many boxes the set has: its set bits
 abbrev pub count : ℕ → ℕ
 count s = ones s
 
--- all of n boxes
+-- how many of the boxes below n pass the test
+abbrev pub tally : (ℕ → Bool) → ℕ → ℕ
+tally test zero = 0
+tally test (suc n) = cond (test n) (1 + tally test n) (tally test n)
+
+-- the set of all boxes below n; `AllBelow` says so box by box
 abbrev pub everyone : ℕ → ℕ
 everyone n = 2 ^ n - 1
 
--- the set has no bit at n or above; `NoneAbove` says so bit by bit
+abbrev pub AllBelow : ℕ → ℕ → Type 0
+AllBelow n s = (i : ℕ) → has s i ≡ ltb i n
+
+-- the set has no box at n or above; `NoneAbove` says so box by box
 abbrev pub within : ℕ → ℕ → Bool
 within n s = ltb s (2 ^ n)
 

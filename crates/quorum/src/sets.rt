@@ -1,8 +1,8 @@
 // Sets of boxes: a number whose bit i stands for box i.
 ghost use mathlib.Core.Path.{_≡_};
-ghost use Prim.Native.Nat.{min, _/_, _^_};
+ghost use Prim.Native.Nat.{min, _/_, _^_, _≤_};
 ghost use lib.Dec.{eqb};
-ghost use Rattle.quorum.specs.Sets.{has, count, everyone, within, NoneAbove};
+ghost use Rattle.quorum.specs.Sets.{has, count, tally, everyone, within, AllBelow, NoneAbove};
 ghost use Rattle.std.specs.Orderings.{Decides};
 
 pub type BoxSet = u32;
@@ -17,15 +17,20 @@ pub fn contains(set: BoxSet, i: usize) -> bool
     i < MAX_BOXES && (set >> i) % 2 == 1
 }
 
+// How many bits are set.
 fn ones(set: BoxSet) -> u32
-    ensures { λ r. ⌜ r ≡ count set ⌝ }
+    ensures value { λ r. ⌜ r ≡ count set ⌝ }
+    ensures boxes { λ r. ⌜ r ≡ tally (has set) 32 ⌝ }
+    ensures bound { λ r. ⌜ r ≤ 32 ⌝ }
 {
     set.count_ones()
 }
 
 // How many boxes the set has.
 pub fn size(set: BoxSet) -> usize
-    ensures { λ r. ⌜ r ≡ count set ⌝ }
+    ensures value { λ r. ⌜ r ≡ count set ⌝ }
+    ensures boxes { λ r. ⌜ r ≡ tally (has set) 32 ⌝ }
+    ensures bound { λ r. ⌜ r ≤ 32 ⌝ }
 {
     ones(set) as usize
 }
@@ -47,9 +52,23 @@ pub fn fits(set: BoxSet, n: usize) -> bool
     strangers(set, n) == 0
 }
 
-// The set of the boxes below `n`, of which a set can hold 32.
-pub fn all_below(n: usize) -> BoxSet
-    ensures { λ r. ⌜ r ≡ everyone (min n 32) ⌝ }
+// The set of all boxes below `n`.
+fn lowest(n: usize) -> BoxSet
+    requires { ⌜ n ≤ 32 ⌝ }
+    ensures value { λ r. ⌜ r ≡ everyone n ⌝ }
+    ensures boxes { λ r. ⌜ AllBelow n r ⌝ }
 {
-    if n >= MAX_BOXES { BoxSet::MAX } else { (1 << n) - 1 }
+    if n == MAX_BOXES {
+        BoxSet::MAX
+    } else {
+        (1 << n) - 1
+    }
+}
+
+// The set of all boxes below `n`; a set has no box past 31.
+pub fn all_below(n: usize) -> BoxSet
+    ensures value { λ r. ⌜ r ≡ everyone (min n 32) ⌝ }
+    ensures boxes { λ r. ⌜ AllBelow (min n 32) r ⌝ }
+{
+    lowest(n.min(MAX_BOXES))
 }
