@@ -7,13 +7,13 @@ use Prim.Native.Nat.{ℕ, zero, suc, _+_, _<_, _≤_}
 use native.Mathlib.Nat.{add-zero, zero-add}
 use native.Mathlib.Omega.{arith}
 use lib.ListN.{length, getD, drop}
-use Rattle.std.proofs.shelf.Lists.{at-drop-all, at-drop-more}
+use Rattle.std.proofs.shelf.Lists.{at-drop-all, at-drop-more, getD-map}
 use Rattle.std.proofs.shelf.Tests.{both-ways, cases-bool, cond-false, cond-true}
 use Rattle.std.specs.declared.option.Option.{Option}
 use Rattle.std.specs.declared.option.Option.the-variants.{Some, None}
 use Rattle.quorum.specs.Sets.{has}
 use Rattle.setup.specs.Orders.{Ordered}
-use Rattle.setup.specs.Rows.{among, entry, first, sooner, IsFirst}
+use Rattle.setup.specs.Rows.{among, entry, first, onward, sooner, IsFirst}
 
 some-none : {V : Type 0} {v : V} → _≡_ {A = Option V} (Some v) None → ⊥
 some-none {V} {v} e = let z : _≡_ {A = ℕ} 0 1 = cc in omega arith
@@ -70,16 +70,29 @@ module _ {V : Type 0} {before : V → V → Bool} (o : Ordered before) where
   sooner-none None = refl
   sooner-none (Some a) = refl
 
-  -- One turn of the loop: the best so far and the first of what is left give one value, before the turn at box i and after it.
-  pub first-turn : {T : Type 0} (f : T → Option V) (row : List T) (s i : ℕ) (x : T) (best offer next : Option V) → i < length row → x ≡ getD row i x
-      → offer ≡ cond (has s i) (f x) None → next ≡ sooner before best offer
-      → sooner before next (first before (among (map f (drop (i + 1) row)) s (i + 1))) ≡ sooner before best (first before (among (map f (drop i row)) s i))
-  first-turn {T} f row s i x best offer next lt at is-offer is-next =
-      let left = first before (among (map f (drop (i + 1) row)) s (i + 1)) in
-      let joined : sooner before offer left ≡ first before (among (map f (drop i row)) s i) =
-      ap (λ (y : Option V). sooner before y left) (is-offer ∙ ap (λ (y : T). cond (has s i) (f y) None) at)
-      ∙ sym (at-drop-more (λ (l : List T). first before (among (map f l) s i)) row i x lt) in
-      ap (λ (y : Option V). sooner before y left) is-next ∙ sym (sooner-assoc best offer left) ∙ ap (sooner before best) joined
+  -- what a turn takes from a box of the set, and from any other
+  pub turn-takes : {T : Type 0} (f : T → Option V) (row : List T) (s i : ℕ) (x : T) (y best r : Option V) → i < length row → x ≡ getD row i x → true ≡ has s i → y ≡ f x
+      → r ≡ sooner before best y → r ≡ sooner before best (cond (has s i) (entry (map f row) i) None)
+  turn-takes f row s i x y best r lt at inside is-y is =
+      is ∙ ap (sooner before best) (is-y ∙ ap f at ∙ sym (getD-map f row i x None lt) ∙ sym (cond-true (has s i) _ None (sym inside)))
+
+  pub turn-keeps : (s i : ℕ) (y best : Option V) → false ≡ has s i → best ≡ sooner before best (cond (has s i) y None)
+  turn-keeps s i y best outside = sym (sooner-none best) ∙ ap (sooner before best) (sym (cond-false (has s i) y None (sym outside)))
+
+  -- one turn of the search moves what box i has from what is left into the best so far
+  pub turn-onward : (row : List (Option V)) (s i : ℕ) (best r : Option V) → i < length row → r ≡ sooner before best (cond (has s i) (entry row i) None)
+      → sooner before r (onward before row s (i + 1)) ≡ sooner before best (onward before row s i)
+  turn-onward row s i best r lt is =
+      let here = cond (has s i) (entry row i) None in
+      let left = onward before row s (i + 1) in
+      ap (λ (x : Option V). sooner before x left) is ∙ sym (sooner-assoc best here left)
+      ∙ ap (sooner before best) (sym (at-drop-more (λ (l : List (Option V)). first before (among l s i)) row i None lt))
+
+  -- nothing is left past the end
+  pub turns-done : (row : List (Option V)) (s i : ℕ) (best : Option V) → length row ≤ i → sooner before best (onward before row s i) ≡ first before (among row s 0)
+      → best ≡ first before (among row s 0)
+  turns-done row s i best end inv =
+      sym (sooner-none best) ∙ sym (at-drop-all (λ (l : List (Option V)). sooner before best (first before (among l s i))) row i end) ∙ inv
 
   -- the first of a row: it stands there, and nothing that stands there comes before it
   abbrev Least : List (Option V) → Option V → Type 0
@@ -140,9 +153,3 @@ module _ {V : Type 0} {before : V → V → Bool} (o : Ordered before) where
 
   pub first-is-first : (row : List (Option V)) (s : ℕ) → IsFirst before row s (first before (among row s 0))
   first-is-first row s = among-first row s (first before (among row s 0)) (least (among row s 0))
-
-  -- what the loop has when the row is done
-  pub first-done : {T : Type 0} (f : T → Option V) (row : List T) (s i : ℕ) (best : Option V) → length row ≤ i
-      → sooner before best (first before (among (map f (drop i row)) s i)) ≡ first before (among (map f row) s 0) → best ≡ first before (among (map f row) s 0)
-  first-done {T} f row s i best end inv =
-      sym (sooner-none best) ∙ sym (at-drop-all (λ (l : List T). sooner before best (first before (among (map f l) s i))) row i end) ∙ inv

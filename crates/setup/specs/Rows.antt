@@ -3,7 +3,7 @@ use mathlib.Core.Bool.{Bool, true, cond}
 use mathlib.Core.List.{List, [], _∷_}
 use mathlib.Core.Path.{_≡_}
 use Prim.Native.Nat.{ℕ, _+_}
-use lib.ListN.{getD}
+use lib.ListN.{drop, getD}
 use Rattle.std.specs.declared.option.Option.{Option}
 use Rattle.std.specs.declared.option.Option.the-variants.{Some, None}
 use Rattle.quorum.specs.Sets.{has}
@@ -27,6 +27,10 @@ sooner before (Some a) (Some b) = Some (cond (before b a) b a)
 abbrev pub first : {V : Type 0} → (V → V → Bool) → List (Option V) → Option V
 first before [] = None
 first before (x ∷ row) = sooner before x (first before row)
+
+-- the first among the boxes of the set from box i on
+abbrev pub onward : {V : Type 0} → (V → V → Bool) → List (Option V) → ℕ → ℕ → Option V
+onward before row s i = first before (among (drop i row) s i)
 
 -- The first among the boxes of a set: it stands at one of them, and comes before every different setup that stands at one. There is none
 -- where no box of the set has a setup.

@@ -2,10 +2,12 @@
 ghost use mathlib.Core.Bool.{cond};
 ghost use mathlib.Core.List.{map};
 ghost use mathlib.Core.Path.{_≡_};
+ghost use Prim.Native.Nat.{_+_, _<_};
+ghost use lib.ListN.{length};
 ghost use Rattle.std.specs.declared.option.Option.{Option};
 ghost use Rattle.std.specs.declared.option.Option.the-variants.{Some, None};
 ghost use Rattle.quorum.specs.Sets.{has};
-ghost use Rattle.setup.specs.Rows.{among, first as first-of, sooner as sooner-of, IsFirst};
+ghost use Rattle.setup.specs.Rows.{among, entry as entry-of, first as first-of, onward, sooner as sooner-of, IsFirst};
 use crate::orders::Setup;
 use quorum::sets::BoxSet;
 use quorum::sets::contains;
@@ -53,14 +55,22 @@ fn sooner<V: Setup>(a: Option<V>, b: Option<V>) -> Option<V>
     }
 }
 
-// What box `i` offers: nothing unless it is in the set.
-fn offer<T, V: Setup, F: Field<T, V>>(field: &F, item: &T, set: BoxSet, i: usize) -> Option<V>
-    ensures { λ r. ⌜ r ≡ cond (has set i) (F·Field .reads (now (field .entry)) (now (item .entry))) None ⌝ }
+// One turn of the search: the best so far, or what box `i` has, if it is in the set and comes first.
+fn turn<T, V: Setup, F: Field<T, V>>(
+    best: Option<V>,
+    field: &F,
+    row: &[T],
+    set: BoxSet,
+    i: usize,
+) -> Option<V>
+    requires { ⌜ i < length (now row) ⌝ }
+    ensures value { λ r. ⌜ r ≡ sooner-of (V·Setup .before) best (cond (has set i) (entry-of (map (F·Field .reads (now (field .entry))) (now (row .entry))) i) None) ⌝ }
+    ensures onward { λ r. ⌜ sooner-of (V·Setup .before) r (onward (V·Setup .before) (map (F·Field .reads (now (field .entry))) (now (row .entry))) set (i + 1)) ≡ sooner-of (V·Setup .before) best (onward (V·Setup .before) (map (F·Field .reads (now (field .entry))) (now (row .entry))) set i) ⌝ }
 {
     if contains(set, i) {
-        field.read(item)
+        sooner(best, field.read(&row[i]))
     } else {
-        None
+        best
     }
 }
 
@@ -70,8 +80,8 @@ pub fn first<T, V: Setup, F: Field<T, V>>(field: &F, row: &[T], set: BoxSet) -> 
     ensures law { λ r. ⌜ IsFirst (V·Setup .before) (map (F·Field .reads (now (field .entry))) (now (row .entry))) set r ⌝ }
 {
     let mut best = None;
-    for (i, item) in row.iter().enumerate() {
-        best = sooner(best, offer(field, item, set, i));
+    for i in 0..row.len() {
+        best = turn(best, field, row, set, i);
     }
     best
 }
