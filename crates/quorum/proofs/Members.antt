@@ -55,11 +55,11 @@ within-decides k n s h = (λ e i le. has-past n s i (ltb-true s (2 ^ n) e) le, �
 pub record Strangers (n s r : ℕ) : Type 0 where
   pub value : r ≡ s / 2 ^ n
   pub none : eqb r 0 ≡ within n s
-  pub bits : Decides (eqb r 0) (NoneAbove n s)
+  pub boxes : Decides (eqb r 0) (NoneAbove n s)
 
 pub strangers : (k n s r : ℕ) → s < 2 ^ k → r ≡ s / 2 ^ n → Strangers n s r
 strangers k n s r h e =
-    let same = ap (λ (q : ℕ). eqb q 0) e ∙ within-shr n s in record { value = e; none = same; bits = decides-at _ _ same (within-decides k n s h) }
+    let same = ap (λ (q : ℕ). eqb q 0) e ∙ within-shr n s in record { value = e; none = same; boxes = decides-at _ _ same (within-decides k n s h) }
 
 or-digit : (d e : ℕ) → d < 2 → e < 2 → eqb (bitOr d e) 1 ≡ (eqb d 1 || eqb e 1)
 or-digit zero zero g h = refl

@@ -39,7 +39,7 @@ pub fn size(set: BoxSet) -> usize
 fn strangers(set: BoxSet, n: usize) -> BoxSet
     ensures value { λ r. ⌜ r ≡ set / 2 ^ n ⌝ }
     ensures none { λ r. ⌜ eqb r 0 ≡ within n set ⌝ }
-    ensures bits { λ r. ⌜ Decides (eqb r 0) (NoneAbove n set) ⌝ }
+    ensures boxes { λ r. ⌜ Decides (eqb r 0) (NoneAbove n set) ⌝ }
 {
     if n >= MAX_BOXES { 0 } else { set >> n }
 }
@@ -47,7 +47,7 @@ fn strangers(set: BoxSet, n: usize) -> BoxSet
 // Whether the set has no box at `n` or above.
 pub fn fits(set: BoxSet, n: usize) -> bool
     ensures value { λ r. ⌜ r ≡ within n set ⌝ }
-    ensures bits { λ r. ⌜ Decides r (NoneAbove n set) ⌝ }
+    ensures boxes { λ r. ⌜ Decides r (NoneAbove n set) ⌝ }
 {
     strangers(set, n) == 0
 }

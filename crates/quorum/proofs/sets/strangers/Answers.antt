@@ -8,8 +8,8 @@ pub returns-then-n-ge-MAX-BOXES : need.returns-then-n-ge-MAX-BOXES
 returns-then-n-ge-MAX-BOXES c =
     let small = c .fits .set .fits in
     let s = strangers 32 (c .args .n) (c .args .set) 0 small (sym (div-eq-of-lt (lt-of-lt-of-le small (pow-mono (c .if-n-ge-MAX-BOXES .taken))))) in
-    record { value = s .value; none = s .none; bits = s .bits }
+    record { value = s .value; none = s .none; boxes = s .boxes }
 
 pub returns-else-n-ge-MAX-BOXES : need.returns-else-n-ge-MAX-BOXES
 returns-else-n-ge-MAX-BOXES c =
-    let s = strangers 32 (c .args .n) (c .args .set) _ (c .fits .set .fits) refl in record { value = s .value; none = s .none; bits = s .bits }
+    let s = strangers 32 (c .args .n) (c .args .set) _ (c .fits .set .fits) refl in record { value = s .value; none = s .none; boxes = s .boxes }
