@@ -1,13 +1,15 @@
--- Each refusal's number, and what each layer's faults report. Assumes nothing.
+-- Each refusal's number, each layer's word, and what the faults of a rule report. Assumes nothing.
+use mathlib.Core.List.{List}
 use mathlib.Core.Path.{_≡_}
 use Prim.Native.Nat.{ℕ}
+use lib.Chars.{codes}
 use Rattle.std.specs.declared.option.Option.{Option}
 use Rattle.std.specs.declared.option.Option.the-variants.{Some, None}
 use Rattle.std.specs.declared.result.Result.{Result}
 use Rattle.std.specs.declared.result.Result.the-variants.{Ok, Err}
 use Rattle.quorum.specs.declared.refusals.Fault.{Fault}
 use Rattle.quorum.specs.declared.refusals.Layer.{Layer}
-use Rattle.quorum.specs.declared.refusals.Layer.the-variants.{Rule}
+use Rattle.quorum.specs.declared.refusals.Layer.the-variants as layer
 use Rattle.quorum.specs.declared.refusals.Refusal.{Refusal}
 use Rattle.quorum.specs.declared.refusals.Refusal.the-variants as refusal
 use Rattle.quorum.specs.declared.refusals.RuleFault.{RuleFault}
@@ -29,6 +31,12 @@ number refusal.Long = 12
 number refusal.Key = 13
 number refusal.Value = 14
 
+abbrev pub word : Layer → List ℕ
+word layer.Rule = codes "rule"
+word layer.Run = codes "run"
+word layer.Book = codes "book"
+word layer.Text = codes "text"
+
 abbrev reason : RuleFault → Refusal
 reason rule.Roster = refusal.Roster
 reason rule.Size = refusal.Size
@@ -36,7 +44,7 @@ reason rule.NoBox = refusal.NoBox
 
 -- a fault in the making of a rule names no place
 abbrev pub of-rule : RuleFault → Fault
-of-rule f = record { refusal = reason f; layer = Rule; place = 0 }
+of-rule f = record { refusal = reason f; layer = layer.Rule; place = 0 }
 
 -- What a call that may decline returns: the value described, where there is no reason to decline, and else that reason.
 abbrev pub Answers : {X F : Type 0} → Option F → (X → Type 0) → Result X F → Type 0

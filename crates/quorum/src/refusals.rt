@@ -1,7 +1,7 @@
 // What a call declines, the layer that declined it, and the place that it names.
 ghost use mathlib.Core.Path.{_≡_};
 ghost use Rattle.quorum.specs.declared.refusals.Fault.{Fault};
-ghost use Rattle.quorum.specs.Refusals.{number, of-rule};
+ghost use Rattle.quorum.specs.Refusals.{number, of-rule, word};
 
 // Each reason to decline, in the order in which calls check for them.
 #[derive(Clone, Copy, Debug, PartialEq)]
@@ -53,6 +53,20 @@ pub enum Layer {
     Run,
     Book,
     Text,
+}
+
+impl Layer {
+    // The word by which a report names the layer.
+    pub fn word(self) -> &'static str
+        ensures { λ r. ⌜ now r ≡ word self ⌝ }
+    {
+        match self {
+            Layer::Rule => "rule",
+            Layer::Run => "run",
+            Layer::Book => "book",
+            Layer::Text => "text",
+        }
+    }
 }
 
 // A refusal as it is reported: the place is a box, the rank of a list, or 0.

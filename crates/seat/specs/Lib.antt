@@ -1,0 +1,4 @@
+pub mod Heads
+pub mod Hearing
+pub mod Named
+pub mod Summaries

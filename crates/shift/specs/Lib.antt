@@ -1,0 +1,9 @@
+pub mod Classes
+pub mod Entries
+pub mod Faults
+pub mod Lines
+pub mod Lists
+pub mod Names
+pub mod Numbers
+pub mod Parts
+pub mod Told
