@@ -24,7 +24,7 @@ fn first(text: &[u8], class: Class) -> Option<usize>
 }
 
 // What stands before and after the first byte of the class.
-pub fn split(text: &[u8], class: Class) -> Option<(&[u8], &[u8])>
+pub(crate) fn split(text: &[u8], class: Class) -> Option<(&[u8], &[u8])>
     ensures value { λ r. ⌜ mapped both r ≡ parted (is class) (now (text .entry)) ⌝ }
     ensures len { λ r. ⌜ found r (λ p. length (now (p .0)) + 1 + length (now (p .1)) ≡ length (now (text .entry))) ⌝ }
 {
@@ -33,7 +33,7 @@ pub fn split(text: &[u8], class: Class) -> Option<(&[u8], &[u8])>
 }
 
 // The key and the value of the first line, where that has an end and an equals sign.
-pub fn entry(text: &[u8]) -> Option<(&[u8], &[u8])>
+pub(crate) fn entry(text: &[u8]) -> Option<(&[u8], &[u8])>
     ensures value { λ r. ⌜ mapped both r ≡ entry (now (text .entry)) ⌝ }
     ensures len { λ r. ⌜ found r (λ p. length (now (p .0)) + length (now (p .1)) + 2 ≤ length (now (text .entry))) ⌝ }
 {
@@ -42,7 +42,7 @@ pub fn entry(text: &[u8]) -> Option<(&[u8], &[u8])>
 }
 
 // Whether the two texts have the same bytes.
-pub fn same(a: &[u8], b: &[u8]) -> bool
+pub(crate) fn same(a: &[u8], b: &[u8]) -> bool
     ensures { λ r. ⌜ r ≡ sameBytes (now (a .entry)) (now (b .entry)) ⌝ }
 {
     a == b
