@@ -2,8 +2,7 @@
 use mathlib.Core.Bool.{Bool, true, false, cond}
 use mathlib.Core.Path.{_≡_, refl, sym, ap, _∙_}
 use mathlib.Core.List.{List, [], _∷_, _++_, append-assoc}
-use Prim.Native.Nat.{ℕ, _+_, _≤_, _<_}
-use native.Mathlib.Numerals.{add-one}
+use Prim.Native.Nat.{ℕ, suc, _+_, _≤_, _<_}
 use native.Mathlib.Omega.{arith}
 use lib.Dec.{leb, ltb}
 use lib.ListN.{length, take, set, length-append}
@@ -37,51 +36,52 @@ nothing : (t : Bool) → cond {A = Option (List ℕ)} t None None ≡ None
 nothing true = refl
 nothing false = refl
 
--- a piece that is a number
-pub piece-more : (xs p : List ℕ) (n : ℕ) → number p ≡ Some n → extended xs n ≡ added xs p
-piece-more xs p n e = ap (λ o. cond (ltb (length xs) 32) (mapped (λ k. xs ++ k ∷ []) o) None) (sym e)
+taken-full : {l ys : List ℕ} (t : Bool) → cond t (Some l) None ≡ Some ys → l ≡ ys
+taken-full true h = cc
+taken-full false h = absurd (let z : _≡_ {A = ℕ} 0 1 = cc in omega arith)
+
+refused-full : (l : List ℕ) (t : Bool) → cond t (Some l) None ≡ None → t ≡ false
+refused-full l true h = absurd (let z : _≡_ {A = ℕ} 0 1 = cc in omega arith)
+refused-full l false h = refl
 
 module _ (xs : List ℕ) (p : List ℕ) (ps : List (List ℕ)) where
-  taken-by : (t : Bool) (o : Option ℕ) (ys : List ℕ) → o ≡ number p → cond t (mapped (λ n. xs ++ n ∷ []) o) None ≡ Some ys → gathered xs (p ∷ ps) ≡ gathered ys ps
-  taken-by true (Some n) ys e h =
-      let is : xs ++ n ∷ [] ≡ ys = cc in
+  taken-by : (o : Option ℕ) (ys : List ℕ) → o ≡ number p → added xs o ≡ Some ys → gathered xs (p ∷ ps) ≡ gathered ys ps
+  taken-by (Some n) ys e h =
+      let is : xs ++ n ∷ [] ≡ ys = taken-full (ltb (length xs) 32) h in
       let long : length xs + length (p ∷ ps) ≡ length ys + length ps = omega (arith, ap length is, length-append xs (n ∷ [])) in
       let rest : mapped (λ ns. xs ++ ns) (each (p ∷ ps)) ≡ mapped (λ ns. ys ++ ns) (each ps) = ap (λ o. mapped (λ ns. xs ++ ns) (followed o (each ps))) (sym e) ∙ regroup xs n (each ps) ∙ ap (λ l. mapped (λ ns. l ++ ns) (each ps)) is in
       ap (λ k. cond (leb k 32) (mapped (λ ns. xs ++ ns) (each (p ∷ ps))) None) long ∙ ap (λ r. cond (leb (length ys + length ps) 32) r None) rest
-  taken-by true None ys e h = absurd (let z : _≡_ {A = ℕ} 0 1 = cc in omega arith)
-  taken-by false o ys e h = absurd (let z : _≡_ {A = ℕ} 0 1 = cc in omega arith)
+  taken-by None ys e h = absurd (let z : _≡_ {A = ℕ} 0 1 = cc in omega arith)
 
-  pub taken : (ys : List ℕ) → added xs p ≡ Some ys → gathered xs (p ∷ ps) ≡ gathered ys ps
-  taken ys h = taken-by (ltb (length xs) 32) (number p) ys refl h
+  pub taken : (ys : List ℕ) → added xs (number p) ≡ Some ys → gathered xs (p ∷ ps) ≡ gathered ys ps
+  taken ys h = taken-by (number p) ys refl h
 
-  refused-by : (t : Bool) (o : Option ℕ) → t ≡ ltb (length xs) 32 → o ≡ number p → cond t (mapped (λ n. xs ++ n ∷ []) o) None ≡ None → gathered xs (p ∷ ps) ≡ None
-  refused-by true (Some n) s e h = absurd (let z : _≡_ {A = ℕ} 0 1 = cc in omega arith)
-  refused-by true None s e h =
+  refused-by : (o : Option ℕ) → o ≡ number p → added xs o ≡ None → gathered xs (p ∷ ps) ≡ None
+  refused-by None e h =
       ap (λ o. cond (leb (length xs + length (p ∷ ps)) 32) (mapped (λ ns. xs ++ ns) (followed o (each ps))) None) (sym e) ∙ nothing (leb (length xs + length (p ∷ ps)) 32)
-  refused-by false o s e h =
-      let over : 32 < length xs + length (p ∷ ps) = omega (arith, ltb-false (length xs) 32 (sym s)) in
+  refused-by (Some n) e h =
+      let over : 32 < length xs + length (p ∷ ps) = omega (arith, ltb-false (length xs) 32 (refused-full (xs ++ n ∷ []) (ltb (length xs) 32) h)) in
       cond-false _ _ None (lt-leb _ 32 over)
 
-  pub refused : added xs p ≡ None → gathered xs (p ∷ ps) ≡ None
-  refused h = refused-by (ltb (length xs) 32) (number p) refl refl h
+  pub refused : added xs (number p) ≡ None → gathered xs (p ∷ ps) ≡ None
+  refused h = refused-by (number p) refl h
 
-one-piece : (xs : List ℕ) (o : Option ℕ) → mapped (λ n. xs ++ n ∷ []) o ≡ mapped (λ ns. xs ++ ns) (followed o (Some []))
-one-piece xs None = refl
-one-piece xs (Some n) = refl
+last-by : (xs p : List ℕ) (o : Option ℕ) → added xs o ≡ cond (leb (length xs + length (p ∷ [])) 32) (mapped (λ ns. xs ++ ns) (followed o (Some []))) None
+last-by xs p None = sym (nothing (leb (length xs + length (p ∷ [])) 32))
+last-by xs p (Some n) =
+    let long : suc (length xs) ≡ length xs + length (p ∷ []) = omega arith in ap (λ k. cond (leb k 32) (Some (xs ++ n ∷ [])) None) long
 
 -- the last piece
-pub last : (xs p : List ℕ) → added xs p ≡ gathered xs (p ∷ [])
-last xs p =
-    let long : length xs + 1 ≡ length xs + length (p ∷ []) = omega arith in
-    ap (λ r. cond (ltb (length xs) 32) r None) (one-piece xs (number p)) ∙ ap (λ k. cond (leb k 32) (mapped (λ ns. xs ++ ns) (each (p ∷ []))) None) (sym (add-one (length xs)) ∙ long)
+pub last : (xs p : List ℕ) → added xs (number p) ≡ gathered xs (p ∷ [])
+last xs p = last-by xs p (number p)
 
 -- a turn of the loop that reads the pieces of rest: p is the first of them, and q what follows it
 module _ (xs rest p q v : List ℕ) (cut : Some (p, q) ≡ parted (is Comma) rest) (inv : gathered xs (pieces (is Comma) rest) ≡ numbers v) where
-  pub goes-on : (ys : List ℕ) → Some ys ≡ added xs p → gathered ys (pieces (is Comma) q) ≡ numbers v
+  pub goes-on : (ys : List ℕ) → Some ys ≡ added xs (number p) → gathered ys (pieces (is Comma) q) ≡ numbers v
   goes-on ys h = sym (ap (gathered xs) (pieces-parted (is Comma) rest p q (sym cut)) ∙ taken xs p (pieces (is Comma) q) ys (sym h)) ∙ inv
 
-  pub ends : None ≡ added xs p → None ≡ numbers v
+  pub ends : None ≡ added xs (number p) → None ≡ numbers v
   ends h = sym (ap (gathered xs) (pieces-parted (is Comma) rest p q (sym cut)) ∙ refused xs p (pieces (is Comma) q) (sym h)) ∙ inv
 
-pub closes : (xs rest v : List ℕ) → None ≡ parted (is Comma) rest → gathered xs (pieces (is Comma) rest) ≡ numbers v → added xs rest ≡ numbers v
+pub closes : (xs rest v : List ℕ) → None ≡ parted (is Comma) rest → gathered xs (pieces (is Comma) rest) ≡ numbers v → added xs (number rest) ≡ numbers v
 closes xs rest v none inv = last xs rest ∙ sym (ap (gathered xs) (pieces-whole (is Comma) rest (sym none))) ∙ inv

@@ -35,6 +35,7 @@ numbers bs = cond (leb (length (pieces (is Comma) bs)) 32) (each (pieces (is Com
 abbrev pub extended : List ℕ → ℕ → Option (List ℕ)
 extended ns n = cond (ltb (length ns) 32) (Some (ns ++ n ∷ [])) None
 
--- the same with the number that the piece writes
-abbrev pub added : List ℕ → List ℕ → Option (List ℕ)
-added ns piece = cond (ltb (length ns) 32) (mapped (λ n. ns ++ n ∷ []) (number piece)) None
+-- the same with a number that may be missing
+abbrev pub added : List ℕ → Option ℕ → Option (List ℕ)
+added ns None = None
+added ns (Some n) = extended ns n

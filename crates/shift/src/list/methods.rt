@@ -4,6 +4,7 @@ ghost use mathlib.Core.List.{[], _∷_, _++_};
 ghost use mathlib.Core.Path.{_≡_};
 ghost use Prim.Native.Nat.{_<_, _≤_};
 ghost use Rattle.shift.specs.Lists.{added, extended, listed, numbers};
+ghost use Rattle.shift.specs.Numbers.{number as number-of};
 ghost use Rattle.std.specs.Options.{mapped};
 use crate::classes::Class;
 use crate::list::Numbers;
@@ -59,7 +60,7 @@ impl Numbers {
 
     // The list with the number that the piece writes, if it is one and has room.
     fn with_piece(self, piece: &[u8]) -> Option<Numbers>
-        ensures { λ r. ⌜ mapped listed r ≡ added (listed self) (now (piece .entry)) ⌝ }
+        ensures { λ r. ⌜ mapped listed r ≡ added (listed self) (number-of (now (piece .entry))) ⌝ }
     {
         self.with(number(piece)?)
     }
