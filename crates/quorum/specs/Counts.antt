@@ -1,5 +1,5 @@
 -- Sets that are large enough share a box. Assumes nothing.
-use Rattle.std.specs.Prelude.{◌≡◌, ℕ, zero, suc, ◌+◌, ◌-◌, ◌*◌, ◌/◌, ◌%◌, ◌^◌, ◌<◌, ◌≤◌, true, ◌⊎◌, bit_or, count_ones}
+use Rattle.std.specs.Prelude.{◌≡◌, ℕ, zero, suc, ◌+◌, ◌*◌, ◌/◌, ◌%◌, ◌^◌, ◌<◌, ◌≤◌, true, ◌⊎◌, bit_or, count_ones}
 use Rattle.std.proofs.Common.{inl, inr, sym, ap, ◌∙◌, pow-suc, arith}
 use Rattle.std.specs.Int.Bits.{or_step}
 use Rattle.std.specs.Int.Count.{ones_step, ones-ones}

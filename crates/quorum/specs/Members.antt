@@ -1,6 +1,6 @@
 -- The boxes of a set, bit by bit. Assumes nothing.
-use Rattle.std.specs.Prelude.{◌≡◌, ℕ, zero, suc, ◌+◌, ◌-◌, ◌*◌, ◌/◌, ◌%◌, ◌^◌, ◌<◌, ◌≤◌, Bool, true, false, ◌||◌, ◌⊎◌, Decides, ◌==◌, bit_or, nat_eq, nat_lt, refl}
-use Rattle.std.proofs.Common.{inl, inr, sym, ap, ap₂, ◌∙◌, lt_of_lt_of_le, mod-lt, le-add_right, one-mul, lt_of_le_of_lt, div-lt_iff_lt-mul, le-div_iff_mul-le, pow-suc, one-add, arith, lit<, pow_pos, pow_mono, shr-shr}
+use Rattle.std.specs.Prelude.{◌≡◌, ℕ, zero, suc, ◌+◌, ◌*◌, ◌/◌, ◌%◌, ◌^◌, ◌<◌, ◌≤◌, true, false, ◌||◌, ◌⊎◌, Decides, ◌==◌, bit_or, nat_eq, nat_lt, refl}
+use Rattle.std.proofs.Common.{inl, inr, sym, ap, ◌∙◌, lt_of_lt_of_le, mod-lt, le-add_right, one-mul, lt_of_le_of_lt, div-lt_iff_lt-mul, le-div_iff_mul-le, pow-suc, one-add, arith, lit<, pow_pos, pow_mono, shr-shr}
 use Rattle.std.proofs.Math.Nat.{div-eq_of_lt}
 use Rattle.std.proofs.Math.Arith.{lt-one}
 use Rattle.std.proofs.lemmas.Nat.{or_shr, or_mod, shr_le}

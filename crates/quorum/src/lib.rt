@@ -1,4 +1,6 @@
 // Sets of boxes, the refusals of every layer, and the rules that say which sets are quorums.
+#![tactic(auto)]
+
 pub mod anchored;
 pub mod boxes;
 pub mod majority;

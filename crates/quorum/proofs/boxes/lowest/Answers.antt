@@ -1,6 +1,6 @@
-use Rattle.std.proofs.Common.{Some, None, sym, ◌∙◌, subst, arith}
+use Rattle.std.proofs.Common.{Some, sym, ◌∙◌, subst, arith}
 use Rattle.std.proofs.lemmas.Bool.{cond-false, cond-true}
-use Rattle.quorum.specs.Boxes.{lowest_from, IsLowest}
+use Rattle.quorum.specs.Boxes.{IsLowest}
 use Rattle.quorum.proofs.Lowest.{lowest_here, lowest_is_lowest, lowest_past}
 use Rattle.quorum.proofs.boxes.lowest.Goals as goal
 
