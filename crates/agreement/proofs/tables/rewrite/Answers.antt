@@ -5,7 +5,7 @@ use Rattle.agreement.proofs.Overwriting.{over_all}
 use Rattle.agreement.proofs.tables.rewrite.Goals as goal
 
 pub loop-i-preserved : goal.loop-i-preserved
-loop-i-preserved g c = c.put.ensures.step _ _ c.new-slip-slip.ensures c.loop-i.invariant
+loop-i-preserved g c = c.put.ensures.step _ _ c.new_slip-slip.ensures c.loop-i.invariant
 
 pub returns : goal.returns
 returns g c =

@@ -2,5 +2,5 @@ use Rattle.std.proofs.Common.{length}
 use Rattle.book.proofs.Places.{rows_fit}
 use Rattle.book.proofs.rows.first_rows.Goals as goal
 
-pub invariant-of-result : goal.invariant-of-result
-invariant-of-result g c = (c.requires.0, (rows_fit c.args.rows c.args.boxes (length c.args.list.now) c.requires.1, tt))
+pub invariant_of-result : goal.invariant_of-result
+invariant_of-result g c = (c.requires.0, (rows_fit c.args.rows c.args.boxes (length c.args.list.now) c.requires.1, tt))

@@ -6,21 +6,21 @@ use Rattle.trials.specs.Readings.{OneSetup}
 use Rattle.trials.proofs.Agreeing.{agree}
 use Rattle.trials.proofs.readings.two_readings.Goals as goal
 
-pub returns-in-err-run : goal.returns-in-err-run
-returns-in-err-run g c = let e = err_from_is_err_and c.from-residual.result c.from-residual.ensures.1 in rw e.1 tt
+pub returns-in_err-run : goal.returns-in_err-run
+returns-in_err-run g c = let e = err_from_is_err_and c.from_residual.result c.from_residual.ensures.1 in rw e.1 tt
 
-pub returns-in-err-steered : goal.returns-in-err-steered
-returns-in-err-steered g c = let e = err_from_is_err_and c.from-residual-in-err-steered.result c.from-residual-in-err-steered.ensures.1 in rw e.1 tt
+pub returns-in_err-steered : goal.returns-in_err-steered
+returns-in_err-steered g c = let e = err_from_is_err_and c.from_residual-in_err-steered.result c.from_residual-in_err-steered.ensures.1 in rw e.1 tt
 
-pub returns-in-err-filed : goal.returns-in-err-filed
-returns-in-err-filed g c = let e = err_from_is_err_and c.from-residual-in-err-filed.result c.from-residual-in-err-filed.ensures.1 in rw e.1 tt
+pub returns-in_err-filed : goal.returns-in_err-filed
+returns-in_err-filed g c = let e = err_from_is_err_and c.from_residual-in_err-filed.result c.from_residual-in_err-filed.ensures.1 in rw e.1 tt
 
 pub returns : goal.returns
 returns g c =
     let meaning = g.P.Procedure.meaning in
     let p = meaning c.args.procedure in
-    let run = c.in-ok-run.run' in
-    let opened = c.in-ok-run.ensures in
+    let run = c.in_ok-run.run' in
+    let opened = c.in_ok-run.ensures in
     let run_1 = c.beat.new.self in
     let run_2 = c.beat-2.new.self in
     let same = opened.runs in
@@ -31,12 +31,12 @@ returns g c =
     let v = c.beat-2.new.table in
     let s = c.beat.new.sheet in
     let r = c.beat-2.new.sheet in
-    let x = c.in-ok-steered.steered in
-    let y = c.in-ok-filed.filed in
+    let x = c.in_ok-steered.steered in
+    let y = c.in_ok-filed.filed in
     let first = subst (λ q. Beats (meaning q) run.clock t c.args.sheet.now c.args.first.now c.beat.result run_1.clock u s) same c.beat.ensures.beats in
-    let read_one = subst (λ q. Reads (meaning q) u c.args.machine (Ok x)) same_1 c.in-ok-steered.ensures in
+    let read_one = subst (λ q. Reads (meaning q) u c.args.machine (Ok x)) same_1 c.in_ok-steered.ensures in
     let second = subst (λ q. Beats (meaning q) run_1.clock u s c.args.second.now c.beat-2.result run_2.clock v r) same_1 c.beat-2.ensures.beats in
-    let read_two = subst (λ q. Reads (meaning q) v c.args.office (Ok y)) same_2 c.in-ok-filed.ensures in
+    let read_two = subst (λ q. Reads (meaning q) v c.args.office (Ok y)) same_2 c.in_ok-filed.ensures in
     subst (λ (o : Option (g.row.V.Denot × g.row.V.Denot)). OneSetup {F = RunFault} (Ok o)) (sym c.both.ensures)
     (agree p opened.promise c.args.proposals.now c.args.table.now run.clock run_1.clock run_2.clock t u v c.args.sheet.now s r c.args.first.now c.args.second.now
     c.beat.result c.beat-2.result c.args.machine c.args.office x y opened.opens first read_one second read_two)

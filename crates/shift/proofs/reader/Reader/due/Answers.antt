@@ -2,8 +2,8 @@ use Rattle.std.proofs.Common.{length, refl, ap, arith, length-drop}
 use Rattle.shift.proofs.Cursor.{left_after, moved, taken}
 use Rattle.shift.proofs.reader.Reader.due.Goals as goal
 
-pub invariant-of-self : goal.invariant-of-self
-invariant-of-self c =
+pub invariant_of-self : goal.invariant_of-self
+invariant_of-self c =
     let read = c.in-Some.ensures.len in
     let rest = ap length c.rest.ensures in
     let left = length-drop c.args.self.now.at c.args.self.now.text.now in
