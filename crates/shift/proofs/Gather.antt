@@ -5,7 +5,7 @@ use Rattle.std.proofs.lemmas.Bool.{lt-leb, ltb-false, cond-false}
 use Rattle.std.specs.Option.{option_map}
 use Rattle.shift.specs.declared.classes.Class.TheVariants.{Comma}
 use Rattle.shift.specs.Classes.{is}
-use Rattle.shift.specs.Lists.{extended, added, followed, each, numbers}
+use Rattle.shift.specs.Lists.{added, followed, each, numbers}
 use Rattle.shift.specs.Numbers.{number}
 use Rattle.shift.specs.Parts.{parted, pieces}
 use Rattle.shift.proofs.Commas.{pieces_parted, pieces_whole}

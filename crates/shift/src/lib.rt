@@ -1,5 +1,6 @@
 // The text of a shift: lines of a key and a value, read in turn, and the forms that values have.
 #![tactic(auto)]
+
 pub mod classes;
 pub mod faults;
 pub mod line;

@@ -7,7 +7,7 @@ invariant_of-self c =
     let read = c.in-Some.ensures.len in
     let rest = ap length c.rest.ensures in
     let left = length-drop c.args.self.now.at c.args.self.now.text.now in
-    (omega (arith, c.args.self.now.within), (omega (arith, c.args.self.now.counted), tt))
+    record { within = omega (arith, c.args.self.now.within); counted = omega (arith, c.args.self.now.counted) }
 
 pub returns : goal.returns
 returns c = record {
