@@ -1,5 +1,5 @@
 -- A fresh book takes the finished phases of every run. Assumes nothing.
-use Rattle.std.proofs.Common.{◌≡◌, ℕ, zero, suc, ◌<◌, ◌≤◌, Bool, ◌⊎◌, List, map, length, Some, None, Ok, Err, Option, Result, sym, refl, ap, ◌∙◌, subst, inl, inr, add-one, arith}
+use Rattle.std.proofs.Common.{◌≡◌, ℕ, zero, suc, ◌<◌, ◌≤◌, Bool, ◌⊎◌, List, length, Ok, Option, Result, sym, refl, ap, ◌∙◌, subst, inl, inr, arith}
 use Rattle.std.proofs.lemmas.List.{length-map}
 use Rattle.std.proofs.lemmas.Bool.{cases_lt}
 use Rattle.quorum.specs.Rules.{Family}
@@ -11,7 +11,6 @@ use Rattle.book.specs.Pages.{Pages, extended, row, rows}
 use Rattle.book.specs.Voting.{Guards, Loyal}
 use Rattle.book.proofs.Places.{row_entered, row_extended, rows_extended}
 use Rattle.book.proofs.Voting.{guards_taken}
-use Rattle.agreement.specs.declared.clocks.Clock.{Clock}
 use Rattle.agreement.specs.declared.slips.Slip.{Slip}
 use Rattle.agreement.specs.Laws.{Lawful, ended}
 use Rattle.agreement.specs.Promise.{Books, Call, Kept, Moment, Worked}

@@ -1,5 +1,5 @@
 -- What the boxes of a run hold. Assumes nothing.
-use Rattle.std.proofs.Common.{◌≡◌, ℕ, zero, suc, ◌+◌, ◌*◌, ◌<◌, ◌≤◌, ◌⊎◌, List, [], ◌∷◌, map, length, get_or, Some, None, Option, sym, refl, ap, ◌∙◌, subst, inl, inr, arith}
+use Rattle.std.proofs.Common.{◌≡◌, ℕ, zero, suc, ◌<◌, ◌≤◌, ◌⊎◌, List, [], ◌∷◌, map, length, get_or, Some, None, Option, sym, refl, ap, ◌∙◌, subst, inl, inr, arith}
 use Rattle.std.proofs.lemmas.Bool.{cases_lt}
 use Rattle.std.specs.Option.{option_or}
 use Rattle.quorum.proofs.Somes.{some_is, some_none}
@@ -7,14 +7,13 @@ use Rattle.setup.specs.Rows.{entry}
 use Rattle.book.specs.Voting.{Guards}
 use Rattle.agreement.specs.declared.clocks.Clock.{Clock}
 use Rattle.agreement.specs.declared.slips.Slip.{Slip}
-use Rattle.agreement.specs.Calls.{advanced}
-use Rattle.agreement.specs.Laws.{AllHold, Course, Due, Lawful, OneClear, Read, ended, last}
-use Rattle.agreement.specs.Promise.{Agreement, Call, ClearPhase, Holds, Moment, Settling, Validity, Worked, taken}
-use Rattle.agreement.specs.Protocols.{Protocol, beaten, through}
+use Rattle.agreement.specs.Laws.{Due, Lawful, OneClear, Read, ended}
+use Rattle.agreement.specs.Promise.{Agreement, Call, ClearPhase, Holds, Moment, Settling, Validity, Worked}
+use Rattle.agreement.specs.Protocols.{Protocol}
 use Rattle.agreement.specs.Slips.{Stands, casts, held, news, opened, opening, setups, slip_at}
 use Rattle.agreement.proofs.Deciding.{one_decision}
 use Rattle.agreement.proofs.Entries.{beaten_from, beaten_item, beaten_length, field_at, field_from, item_inside, opened_from}
-use Rattle.agreement.proofs.Moments.{Advances, advances, clock_of, course, finished, few_phases, heard_is, in_phase, runs, step, table_at, table_is, fills, begins}
+use Rattle.agreement.proofs.Moments.{Advances, advances, clock_of, course, finished, heard_is, in_phase, runs, step, table_at, table_is, fills, begins}
 use Rattle.agreement.proofs.Taking.{Comes, Taken}
 
 -- what is held comes from the news, or was held before

@@ -1,5 +1,5 @@
 -- What a call on a run comes to: a taken beat, or nothing. Assumes nothing.
-use Rattle.std.proofs.Common.{◌≡◌, ℕ, ◌+◌, ◌<◌, ◌≤◌, Bool, true, false, cond, not, eqb, ltb, ◌⊎◌, List, length, get_or, Some, None, Ok, Err, Option, Result, sym, refl, ap, ◌∙◌, subst, inl, inr, arith}
+use Rattle.std.proofs.Common.{◌≡◌, ℕ, ◌≤◌, not, eqb, ◌⊎◌, List, length, Some, None, Ok, Err, Option, refl, subst, inl, inr}
 use Rattle.std.proofs.lemmas.Bool.{eqb-true, ltb-false, not-false, not-true}
 use Rattle.std.specs.Option.{option_map}
 use Rattle.quorum.specs.Boxes.{lowest}
@@ -7,10 +7,8 @@ use Rattle.quorum.specs.Refusals.{unless}
 use Rattle.quorum.proofs.Lowest.{none_passes}
 use Rattle.quorum.proofs.Refused.{does_err, does_ok, either_none, mapped_none, unless_none}
 use Rattle.agreement.specs.declared.clocks.Clock.{Clock}
-use Rattle.agreement.specs.declared.faults.RunFault.{RunFault}
 use Rattle.agreement.specs.declared.faults.RunFault.TheVariants as fault
-use Rattle.agreement.specs.declared.slips.Slip.{Slip}
-use Rattle.agreement.specs.Calls.{Beats, Waiting, advanced, closed, estranged, no_beat, other_length, other_lengths, waits}
+use Rattle.agreement.specs.Calls.{Waiting, advanced, closed, estranged, no_beat, other_length, other_lengths}
 use Rattle.agreement.specs.Laws.{AllAdmitted, last}
 use Rattle.agreement.specs.Promise.{Call, Leaves, Moment, beat, read, taken}
 use Rattle.agreement.specs.Protocols.{Protocol, beaten}

@@ -1,5 +1,5 @@
 -- What every procedure shows. Assumes nothing.
-use Rattle.std.specs.Prelude.{◌≡◌, ℕ, suc, ◌+◌, ◌<◌, ◌≤◌, Bool, true, ◌⊎◌, List, length, replicate, Some, None, Option, slice_index}
+use Rattle.std.specs.Prelude.{◌≡◌, ℕ, suc, ◌+◌, ◌<◌, ◌≤◌, true, ◌⊎◌, List, length, replicate, Some, None, slice_index}
 use Rattle.std.specs.Option.{option_or}
 use Rattle.quorum.specs.Rules.{Lawful as RuleLawful}
 use Rattle.quorum.specs.Sets.{everyone, has, within}

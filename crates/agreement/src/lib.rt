@@ -1,5 +1,6 @@
 // The agreement: slips, procedures that rewrite them, runs of a procedure, and the promise that every run keeps.
 #![tactic(auto)]
+
 mod checks;
 pub mod clocks;
 pub mod faults;
