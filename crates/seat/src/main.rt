@@ -1,5 +1,6 @@
 // The seat: reads a shift's text from standard input, and says of each beat which boxes heard a quorum.
 #![tactic(auto)]
+
 use head::{read_beat, read_head};
 use hearing::hearers;
 use named::NamedRule;
