@@ -1,5 +1,5 @@
 -- Two readings of a run, from what the calls promise. Assumes nothing.
-use Rattle.std.proofs.Common.{◌≡◌, ℕ, Bool, List, Some, None, Ok, Err, Option, Result, refl, ◌∙◌, arith}
+use Rattle.std.proofs.Common.{◌≡◌, ℕ, Bool, List, Some, None, Ok, Option, Result, refl, ◌∙◌, arith}
 use Rattle.std.specs.Option.{option_zip}
 use Rattle.agreement.specs.declared.clocks.Clock.{Clock}
 use Rattle.agreement.specs.declared.faults.RunFault.{RunFault}

@@ -1,5 +1,6 @@
 // Worked examples of the definitions, and tests of the calls.
 #![tactic(auto)]
+
 ghost use Rattle.std.specs.Prelude.{◌≡◌, length};
 ghost use Rattle.trials.specs.Worked.{computed, expected, rows_computed, rows_expected};
 
