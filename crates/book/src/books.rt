@@ -2,7 +2,7 @@
 ghost use Rattle.std.specs.Prelude.{◌≡◌};
 ghost use Rattle.book.specs.Entering.{Enters, Votes};
 ghost use Rattle.book.specs.Keeping.{pages};
-ghost use Rattle.book.specs.Pages.{fresh, rows as rows_of_lem};
+ghost use Rattle.book.specs.Pages.{fresh, rows as rows_in};
 
 use crate::entering::place;
 use crate::faults::BookFault;
@@ -31,7 +31,7 @@ impl<'a, V: Setup> Book<'a, V> {
 
     // How many rows the list has room for.
     pub fn rows(&self) -> usize
-        ensures { result ≡ rows_of_lem (pages self.now) }
+        ensures { result ≡ rows_in (pages self.now) }
     {
         if self.boxes == 0 {
             0

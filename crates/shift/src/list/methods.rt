@@ -1,7 +1,7 @@
 // Numbers with commas between them, read into a list.
 ghost use Rattle.std.specs.Prelude.{◌≡◌, ◌<◌, ◌≤◌, [], ◌∷◌, ◌++◌, length};
 ghost use Rattle.shift.specs.Lists.{added, extended, listed, numbers};
-ghost use Rattle.shift.specs.Numbers.{number as number_of_lem};
+ghost use Rattle.shift.specs.Numbers.{number as number_in};
 ghost use Rattle.std.specs.Option.{option_map};
 
 use crate::classes::Class;
@@ -57,7 +57,7 @@ impl Numbers {
 
     // The list with the number that the piece writes, if it is one and has room.
     fn with_piece(self, piece: &[u8]) -> Option<Numbers>
-        ensures { option_map listed result ≡ added (listed self) (number_of_lem piece.now) }
+        ensures { option_map listed result ≡ added (listed self) (number_in piece.now) }
     {
         self.with(number(piece)?)
     }
