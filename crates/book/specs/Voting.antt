@@ -20,4 +20,4 @@ Backed {V} f votes decisions =
 
 -- both guards of a row, the earlier rows being numbered from 0 and so many
 abbrev pub Guards : {V : Type 0} → Family → (ℕ → List (Option V)) → ℕ → List (Option V) → List (Option V) → Type 0
-Guards f earlier so-many votes decisions = ((r : ℕ) → r < so-many → Loyal f (earlier r) votes) × Backed f votes decisions
+Guards f earlier so_many votes decisions = ((r : ℕ) → r < so_many → Loyal f (earlier r) votes) × Backed f votes decisions

@@ -1,13 +1,13 @@
 // The setup number: an unsigned number, in order of size.
 ghost use Rattle.setup.specs.Kinds.{number_before};
-ghost use Rattle.std.proofs.Common.{rules};
+ghost use Rattle.setup.specs.Lawful.{unsigned_ordered};
 
 use crate::orders::Setup;
 
 impl Setup for u32 {
     ghost before = { number_before };
 
-    ghost ordered = { Prim.search rules };
+    ghost ordered = { unsigned_ordered };
 
     fn comes_before(&self, other: &u32) -> bool {
         *self < *other
