@@ -39,7 +39,7 @@ module _ {V : Type 0} (p : Protocol V) (c : Clock) (table sheet : List (Slip V))
   must_wait = is_waiting p c.phase c.beat heard waiting (lowest_is_lowest (waits p c.phase c.beat heard) p.rule.boxes)
 
   -- each list is as long as the roster
-  pub lists_fit : (k : ℕ) → Answers declined Sound (Ok k) → Sound k
+  lists_fit : (k : ℕ) → Answers declined Sound (Ok k) → Sound k
   lists_fit k h = value_of declined Sound k h
 
   pub not_closed : (k : ℕ) → Answers declined Sound (Ok k) → c.phase ≤ last

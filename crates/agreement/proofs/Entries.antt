@@ -12,12 +12,7 @@ use Rattle.agreement.specs.Slips.{opened, opening, slip_at}
 abbrev pub item : {A : Type 0} → List A → ℕ → Option A
 item xs i = entry (map Some xs) i
 
--- within the list there is one
-pub item_there : {A : Type 0} (xs : List A) (i : ℕ) → i < length xs → (x : A) × (item xs i ≡ Some x)
-item_there [] i lt = absurd (omega arith)
-item_there (x ∷ xs) zero lt = (x, refl)
-item_there (x ∷ xs) (suc i) lt = item_there xs i (omega arith)
-
+-- where there is one, the place is within the list
 pub item_inside : {A : Type 0} (xs : List A) (i : ℕ) (x : A) → item xs i ≡ Some x → i < length xs
 item_inside [] i x e = absurd (some_none (sym e))
 item_inside (y ∷ xs) zero x e = omega arith

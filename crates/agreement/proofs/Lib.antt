@@ -1,10 +1,12 @@
 pub mod Beating
 pub mod Bookkeeping
+pub mod Closing
 pub mod Deciding
 pub mod Entries
 pub mod Holding
 pub mod Judging
 pub mod Moments
+pub mod Naming
 pub mod Opening
 pub mod Overwriting
 pub mod Promising

@@ -1,7 +1,7 @@
 -- Opening, beat and read: when each is declined, and what each answers and leaves. Assumes nothing.
 use Rattle.std.specs.Prelude.{◌≡◌, ℕ, ◌+◌, ◌<◌, Bool, true, false, cond, not, List, length, Some, None, Ok, Err, Option, Result, ◌==◌, nat_lt, slice_index}
 use Rattle.std.specs.Option.{option_map}
-use Rattle.quorum.specs.Boxes.{lowest}
+use Rattle.quorum.specs.Boxes.{lowest, IsLowest}
 use Rattle.quorum.specs.Refusals.{Answers, Does, either, unless}
 use Rattle.quorum.specs.Sets.{within}
 use Rattle.agreement.specs.declared.clocks.Clock.{Clock}
@@ -81,6 +81,10 @@ Beats p c table sheet heard answer c' table' sheet' =
     × Does (no_beat p c (length table) (length sheet) heard waiting)
     (λ _. (c' ≡ advanced p.beats c) × (table' ≡ beaten p c.phase c.beat heard table) × (sheet' ≡ table))
     ((c' ≡ c) × (table' ≡ table) × (sheet' ≡ sheet)) answer
+
+-- A beat that is declined for a stranger names the lowest box whose heard set has one.
+abbrev pub FirstStranger : ℕ → List ℕ → Result (Unit {0}) RunFault → Type 0
+FirstStranger n heard answer = (i : ℕ) → answer ≡ Err (fault.Stranger i) → IsLowest (estranged n heard) n (Some i)
 
 -- ---- read
 

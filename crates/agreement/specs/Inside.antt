@@ -1,4 +1,4 @@
--- What the contracts of inner functions cite: a list that is being overwritten, and a beat that goes on. Assumes nothing.
+-- What inner contracts, loop invariants and the lemmas of a beat cite: a list that is being overwritten, and a beat that goes on. Assumes nothing.
 use Rattle.std.specs.Prelude.{◌≡◌, ℕ, ◌<◌, List, ◌++◌, length, take, drop, slice_index_or}
 use Rattle.agreement.specs.declared.clocks.Clock.{Clock}
 use Rattle.agreement.specs.Protocols.{Protocol}

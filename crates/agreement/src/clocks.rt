@@ -2,13 +2,14 @@
 ghost use Rattle.std.specs.Prelude.{◌≡◌, ◌≤◌, not};
 ghost use Rattle.quorum.specs.Refusals.{Answers, unless};
 ghost use Rattle.agreement.specs.Calls.{advanced, beginning, closed};
+ghost use Rattle.agreement.specs.Laws.{last};
 ghost use Rattle.agreement.specs.declared.faults.RunFault.TheVariants.{Closed};
 
 use crate::faults::RunFault;
 
 #[derive(Clone, Copy, Debug, PartialEq)]
 pub struct Clock {
-    // 0 to 65,535, and 65,536 once the last phase is finished
+    // 0 to 65,535, and 65,536 once the last phase is finished: no `Option`, since phases are counted on, as the definitions count them
     pub phase: u32,
     pub beat: u8,
 }
@@ -32,15 +33,12 @@ impl Clock {
     pub(crate) fn open_phase(self) -> Result<u16, RunFault>
         ensures { Answers (unless (not (closed self)) Closed) (λ k. k ≡ self.phase) result }
     {
-        if self.is_closed() {
-            return Err(RunFault::Closed);
-        }
-        Ok(self.phase as u16)
+        u16::try_from(self.phase).map_err(|_| RunFault::Closed)
     }
 
     // The beat after this one, in phases of so many beats.
     pub(crate) fn advanced(self, beats: u8) -> Clock
-        requires { self.phase ≤ 65535 }
+        requires { self.phase ≤ last }
         ensures { result ≡ advanced beats self }
     {
         if self.beat < beats.saturating_sub(1) {

@@ -7,7 +7,7 @@ use crate::slips::Slip;
 use quorum::sets::BoxSet;
 use setup::orders::Setup;
 
-// How the boxes come to agree: a rule's quorums, and what each beat of a phase makes of the slips.
+// How the boxes come to agree: a rule's quorums, and what each beat of a phase makes of the slips. Phase and beat stay two numbers, as its meaning takes them.
 pub trait Procedure<V: Setup> {
     ghost meaning: { Self → Protocol V };
 

@@ -1,14 +1,15 @@
 // A run of a procedure: it is opened on proposals, worked by beats, and read.
 ghost use Rattle.std.specs.Prelude.{◌≡◌, IfOk};
-ghost use Rattle.agreement.specs.Calls.{Beats, Opens, Reads, clocked};
+ghost use Rattle.agreement.specs.Calls.{Beats, FirstStranger, Opens, Reads, clocked};
 ghost use Rattle.agreement.specs.Promise.{Promise};
 
-use crate::checks::{judge, may_open, may_read};
+use crate::checks::{have_lengths, may_open, may_read};
 use crate::clocks::Clock;
 use crate::faults::RunFault;
+use crate::hearing::Given;
 use crate::procedures::Procedure;
 use crate::slips::Slip;
-use crate::tables::{fill, turn_over};
+use crate::tables::fill;
 use quorum::sets::BoxSet;
 use setup::orders::Setup;
 
@@ -19,6 +20,7 @@ pub struct Run<P> {
 }
 
 // Fills the table for an opening, or declines it.
+#[tactic(auto, using(crate::proofs::Opening::opening_declined, crate::proofs::Opening::opening_done))]
 fn begin<V: Setup, P: Procedure<V>>(
     procedure: &P,
     proposals: &[V],
@@ -32,6 +34,7 @@ fn begin<V: Setup, P: Procedure<V>>(
 }
 
 // Takes the beat that is due and moves the clock on, or declines it.
+// Table and sheet stay two lists, as the caller has them: a struct would be made at each call to be taken apart here.
 fn close<V: Setup, P: Procedure<V>>(
     procedure: &P,
     clock: &mut Clock,
@@ -41,8 +44,17 @@ fn close<V: Setup, P: Procedure<V>>(
 ) -> Result<(), RunFault>
     ensures { Beats (P.Procedure.meaning procedure.now) clock.old table.old sheet.old heard.now result clock.new table.new sheet.new }
 {
-    let phase = judge(procedure, *clock, table, sheet, heard)?;
-    turn_over(procedure, phase, clock.beat, heard, table, sheet);
+    let boxes = procedure.boxes();
+    have_lengths(boxes, table.len(), sheet.len(), heard.len())?;
+    let given = Given {
+        procedure,
+        boxes,
+        phase: clock.open_phase()?,
+        beat: clock.beat,
+        heard,
+    };
+    given.may_go_on()?;
+    given.turn_over(table, sheet);
     *clock = clock.advanced(procedure.beats());
     Ok(())
 }
@@ -88,12 +100,14 @@ impl<P> Run<P> {
     where
         P: Procedure<V>,
         ensures beats { Beats (P.Procedure.meaning self.old.procedure) self.old.clock table.old sheet.old heard.now result self.new.clock table.new sheet.new }
+        ensures first { FirstStranger (P.Procedure.meaning self.old.procedure).rule.boxes heard.now result }
         ensures runs { self.new.procedure ≡ self.old.procedure }
     {
         close(&self.procedure, &mut self.clock, table, sheet, heard)
     }
 
     // The slip of a box.
+    #[tactic(auto, using(crate::proofs::Reading::inside, crate::proofs::Reading::read_declined, crate::proofs::Reading::read_done))]
     pub fn read<V: Setup>(&self, table: &[Slip<V>], i: usize) -> Result<Slip<V>, RunFault>
     where
         P: Procedure<V>,

@@ -4,19 +4,16 @@ use Rattle.std.proofs.lemmas.List.{append_assoc, drop-append-le, drop_at, drop-t
 use Rattle.book.specs.Pages.{Pages, extended, row, rows}
 
 -- a row ends where the next begins
-pub row_ends : (r m n k : ℕ) → r < m → m * n ≤ k → r * n + n ≤ k
+row_ends : (r m n k : ℕ) → r < m → m * n ≤ k → r * n + n ≤ k
 row_ends r m n k lt le =
     let next : suc r * n ≤ m * n = mul-le-mul_right n lt in
     omega (arith, suc-mul r n)
 
 -- a list of k entries has room for row r
-pub row_fits : (r n k : ℕ) → r < k / n → r * n + n ≤ k
+row_fits : (r n k : ℕ) → r < k / n → r * n + n ≤ k
 row_fits r n k lt = row_ends r (k / n) n k lt (div-mul-le_self k n)
 
--- and for the rows before it
-pub rows_fit : (r n k : ℕ) → r < k / n → r * n ≤ k
-rows_fit r n k lt = omega (arith, row_fits r n k lt)
-
+-- each row before the last that it has room for is full
 pub length_row : {V : Type 0} (b : Pages V) (r : ℕ) → r < b.written → b.written < rows b → length (row b r) ≡ b.boxes
 length_row b r below room =
     let end = row_fits r b.boxes (length b.list) (omega arith) in

@@ -1,6 +1,8 @@
 -- The voters of a setup, as a set of boxes. Assumes nothing.
-use Rattle.std.proofs.Common.{◌≡◌, ℕ, zero, suc, ◌+◌, ◌-◌, ◌*◌, ◌/◌, ◌^◌, ◌<◌, ◌≤◌, Bool, true, false, cond, List, [], ◌∷◌, length, get_or, drop, Option, sym, ap, ◌∙◌, subst, le_refl, pow-suc, arith, lit<, pow_mono}
-use Rattle.std.proofs.lemmas.List.{at_drop_all, at_drop_more, length-drop}
+use Rattle.std.proofs.Common.{◌≡◌, ℕ, zero, suc, ◌+◌, ◌*◌, ◌%◌, ◌/◌, ◌^◌, ◌<◌, ◌≤◌, Bool, true, false, cond, List, reverse, [], ◌∷◌, length, Option, refl, ap, ◌∙◌, subst, pow-suc, arith, lit<, pow_mono}
+use Rattle.std.specs.List.{fold}
+use Rattle.std.proofs.lemmas.List.{reverse-append}
+use Rattle.std.proofs.lemmas.List.Sums.{fold-append}
 use Rattle.std.proofs.lemmas.Bool.{lt-ltb}
 use Rattle.std.proofs.lemmas.Bool.Decides.{nat_tests}
 use Rattle.quorum.specs.Sets.{has, within}
@@ -22,25 +24,18 @@ module _ {V : Type 0} (before : V → V → Bool) (v : V) where
       let rest = voters_below row in
       omega (arith, digit (is before v x))
 
-  -- one turn of the count: the box below those that are counted
-  pub voters_turn : (row : List (Option V)) (i set r : ℕ) (there : Bool) (x : Option V) → 0 < i → i ≤ length row → x ≡ get_or row (i - 1) x → there ≡ is before v x
-      → set ≡ voters before v (drop i row) → r ≡ cond there 1 0 + 2 * set → r ≡ voters before v (drop (i - 1) row)
-  voters_turn row i set r there x lt le at is-there so_far is-r =
-      let back : i - 1 + 1 ≡ i = omega arith in
-      let here : is before v x ≡ is before v (get_or row (i - 1) x) = ap (is before v) at in
-      let left : voters before v (drop (i - 1 + 1) row) ≡ voters before v (drop i row) = ap (λ (k : ℕ). voters before v (drop k row)) back in
-      let step = at_drop_more (voters before v) row (i - 1) x (omega arith) in
-      cc
+  -- the set of some boxes, moved one box up, with what the box below them has
+  abbrev pub joined : ℕ → Option V → ℕ
+  joined set x = cond (is before v x) 1 0 + 2 * set % 2 ^ 32
 
-  -- the boxes left behind those counted, of so many as a set has, leave room for one more
-  pub voters_room : (row : List (Option V)) (i : ℕ) → 0 < i → length row ≤ 32 → voters before v (drop i row) < 2 ^ 31
-  voters_room row i lt le =
-      let few : length (drop i row) ≤ 31 = simp length-drop (omega arith) in
-      omega (arith, voters_below (drop i row), pow_mono few)
-
-  -- before the first turn
-  pub voters_none : (row : List (Option V)) → 0 ≡ voters before v (drop (length row) row)
-  voters_none row = sym (at_drop_all (voters before v) row (length row) (le_refl (length row)))
+  -- counted from the last box down, no box of 32 is lost
+  pub voters_counted : (row : List (Option V)) → length row ≤ 32 → fold joined 0 (reverse row) ≡ voters before v row
+  voters_counted [] le = refl
+  voters_counted (x ∷ row) le =
+      let few : length row ≤ 31 = omega arith in
+      let exact : 2 * voters before v row % 2 ^ 32 ≡ 2 * voters before v row = omega (arith, voters_below row, pow_mono few) in
+      ap (fold joined 0) (reverse-append (x ∷ []) row) ∙ fold-append joined 0 (reverse row) (x ∷ [])
+      ∙ ap (λ (s : ℕ). joined s x) (voters_counted row (omega arith)) ∙ ap (λ (s : ℕ). cond (is before v x) 1 0 + s) exact
 
   -- box i is among the voters exactly if it has the setup
   pub voters_has : (row : List (Option V)) (i : ℕ) → has (voters before v row) i ≡ is before v (entry row i)

@@ -1,17 +1,17 @@
 -- A book that is ready takes a row exactly if it meets both guards. Assumes nothing.
-use Rattle.std.proofs.Common.{◌≡◌, ℕ, ◌<◌, Bool, true, eqb, ltb, List, length, None, Option, Result, sym, ap, ◌∙◌, subst, ap₂}
+use Rattle.std.proofs.Common.{◌≡◌, ℕ, ◌<◌, Bool, true, eqb, ltb, List, length, None, Ok, Err, Option, Result, sym, refl, ap, ◌∙◌, subst, ap₂}
 use Rattle.std.proofs.lemmas.Bool.{eq-eqb, lt-ltb}
 use Rattle.std.specs.Option.{option_map}
 use Rattle.quorum.specs.Boxes.{lowest}
-use Rattle.quorum.specs.Refusals.{either, unless}
+use Rattle.quorum.specs.Refusals.{Answers, either, unless}
 use Rattle.quorum.specs.Rules.{Family, Lawful}
 use Rattle.quorum.proofs.Lowest.{lowest_none, none_passes}
-use Rattle.quorum.proofs.Refused.{does_none, does_ok, either_none, mapped_none}
+use Rattle.quorum.proofs.Refused.{answers_ok, either_none, mapped_none}
 use Rattle.setup.specs.Orders.{Ordered}
 use Rattle.book.specs.declared.faults.BookFault.{BookFault}
 use Rattle.book.specs.declared.faults.BookFault.TheVariants as fault
-use Rattle.book.specs.Entering.{declined, Enters, Ready, Votes}
-use Rattle.book.specs.Pages.{Pages, defects, extended, row, rows, turns_at, unbacked}
+use Rattle.book.specs.Entering.{declined, Ready, Votes}
+use Rattle.book.specs.Pages.{Pages, defects, row, rows, turns_at, unbacked}
 use Rattle.book.specs.Voting.{Guards}
 use Rattle.book.proofs.Guarding.{backed_lacks, lacks_backed, loyal_turns, turns_loyal}
 use Rattle.book.proofs.Places.{length_row}
@@ -51,11 +51,16 @@ module _ {V : Type 0} {before : V → V → Bool} (o : Ordered before) (f : Fami
             (λ i lt. none_passes (unbacked f before votes decisions) b.boxes backed i (subst (λ (n : ℕ). i < n) r.roster lt)),
       )
 
-  pub enters_votes : (answer : Result (Unit {0}) BookFault) (after : Pages V) → Enters f before b votes decisions answer after → Votes f b votes decisions answer
-  enters_votes answer after h = record {
-    taken = λ r e.
-        taken_guards r
-        (does_ok (declined f before b votes decisions) (λ _. after ≡ extended b votes) (after ≡ b) tt
-        (subst (λ (a : Result (Unit {0}) BookFault). Enters f before b votes decisions a after) e h)).0;
-    takes = λ r g. (does_none (declined f before b votes decisions) (λ _. after ≡ extended b votes) (after ≡ b) answer (guards_taken r g) h).0;
+  -- an answer that follows the checks is that of a round of voting
+  pub answers_votes : (answer : Result (Unit {0}) BookFault) → Answers (declined f before b votes decisions) (λ (_ : Unit {0}). Unit {0}) answer → Votes f b votes decisions answer
+  answers_votes answer h = record {
+    taken = λ r e. taken_guards r (answers_ok (declined f before b votes decisions) (λ (_ : Unit {0}). Unit {0}) tt (subst (λ (a : Result (Unit {0}) BookFault). Answers (declined f before b votes decisions) (λ (_ : Unit {0}). Unit {0}) a) e h));
+    takes = λ r g. none (guards_taken r g) answer h;
   }
+    where
+      none : declined f before b votes decisions ≡ None → (a : Result (Unit {0}) BookFault) → Answers (declined f before b votes decisions) (λ (_ : Unit {0}). Unit {0}) a → a ≡ Ok tt
+      none e a k = go a (subst (λ (o : Option BookFault). Answers o (λ (_ : Unit {0}). Unit {0}) a) e k)
+        where
+          go : (x : Result (Unit {0}) BookFault) → Answers {F = BookFault} None (λ (_ : Unit {0}). Unit {0}) x → x ≡ Ok tt
+          go (Ok u) d = refl
+          go (Err f) d = absurd d

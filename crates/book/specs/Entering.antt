@@ -1,7 +1,7 @@
 -- When a book declines a row, and what entering one leaves. Assumes nothing.
-use Rattle.std.specs.Prelude.{◌≡◌, ◌<◌, Bool, List, length, Ok, Option, Result, ◌==◌, nat_lt}
+use Rattle.std.specs.Prelude.{◌≡◌, ℕ, ◌<◌, Bool, List, length, Some, Ok, Err, Option, Result, ◌==◌, nat_lt}
 use Rattle.std.specs.Option.{option_map}
-use Rattle.quorum.specs.Boxes.{lowest}
+use Rattle.quorum.specs.Boxes.{lowest, IsLowest}
 use Rattle.quorum.specs.Refusals.{Does, either, unless}
 use Rattle.quorum.specs.Rules.{Family}
 use Rattle.book.specs.declared.faults.BookFault.{BookFault}
@@ -23,6 +23,11 @@ declined f before b votes decisions =
 abbrev pub Enters : {V : Type 0} → Family → (V → V → Bool) → Pages V → List (Option V) → List (Option V) → Result (Unit {0}) BookFault → Pages V → Type 0
 Enters f before b votes decisions answer after =
     Does (declined f before b votes decisions) (λ _. after ≡ extended b votes) (after ≡ b) answer
+
+-- A row that a guard declines names the lowest box that breaks the guard.
+pub record NamesFirst {V : Type 0} (f : Family) (before : V → V → Bool) (b : Pages V) (votes decisions : List (Option V)) (answer : Result (Unit {0}) BookFault) : Type 0 where
+  pub defector : (i : ℕ) → answer ≡ Err (fault.Defection i) → IsLowest (defects f before b votes) b.boxes (Some i)
+  pub unbacked_box : (i : ℕ) → answer ≡ Err (fault.Unbacked i) → IsLowest (unbacked f before votes decisions) b.boxes (Some i)
 
 -- Room for a row, a rule of the book's roster, and lists of the right length.
 pub record Ready {V : Type 0} (f : Family) (b : Pages V) (votes decisions : List (Option V)) : Type 0 where

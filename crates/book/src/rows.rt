@@ -1,49 +1,53 @@
-// Rows in a flat list, and the boxes of a row that have a setup.
-ghost use Rattle.std.specs.Prelude.{◌≡◌, ◌+◌, ◌*◌, ◌/◌, ◌^◌, ◌<◌, ◌≤◌, length, if◌then◌else◌};
+// A row: what each box has, a setup or none, and the boxes that have a setup.
+ghost use Rattle.std.specs.Prelude.{◌≡◌, ◌+◌, ◌*◌, ◌%◌, ◌^◌, ◌≤◌, length, if◌then◌else◌};
 ghost use Rattle.setup.specs.Rows.{entry as entry_of};
-ghost use Rattle.book.specs.Keeping.{read};
-ghost use Rattle.book.specs.Pages.{fresh, is as is_of, kept, row as row_of, same as same_of, voters as voters_of};
+ghost use Rattle.book.specs.Pages.{is as is_of, same as same_of, voters as voters_of};
 
-use crate::written::Written;
+use quorum::rules::Rule;
 use quorum::sets::BoxSet;
 use setup::orders::Setup;
 
-// Row `r` of rows of so many boxes.
-fn row_at<V>(list: &[Option<V>], boxes: usize, r: usize) -> &[Option<V>]
-    requires { r * boxes + boxes ≤ length list.now }
-    ensures value { result.now ≡ row_of (fresh boxes list.now) r }
-    ensures size { length result.now ≡ boxes }
-{
-    &list[r * boxes..r * boxes + boxes]
+// The entries of as many boxes at most as a set has.
+#[derive(Drop)]
+pub(crate) struct Row<'a, V> {
+    entries: &'a [Option<V>],
+    ghost few: { length entries.now ≤ 32 },
 }
 
-impl<'a, V> Written<'a, V> {
-    // Row `r`.
-    pub(crate) fn row(&self, r: usize) -> &[Option<V>]
-        requires { r < self.now.rows }
-        ensures value { result.now ≡ row_of (read self.now) r }
-        ensures few { length result.now ≤ 32 }
+impl<'a, V: Setup> Row<'a, V> {
+    pub(crate) fn new(entries: &'a [Option<V>]) -> Row<'a, V>
+        requires { length entries.now ≤ 32 }
+        ensures { result.entries.now ≡ entries.now }
     {
-        row_at(self.list, self.boxes, r)
+        Row { entries }
+    }
+
+    // What box `i` has: none past the end.
+    pub(crate) fn entry(&self, i: usize) -> Option<V>
+        ensures { result ≡ entry_of self.now.entries.now i }
+    {
+        self.entries.get(i).copied().flatten()
+    }
+
+    // The set of the boxes that have `v`.
+    pub(crate) fn voters(&self, v: V) -> BoxSet
+        ensures { result ≡ voters_of V.Setup.before v self.now.entries.now }
+    {
+        self.entries
+            .iter()
+            .rev()
+            .fold(0, |set, x| below(set, is(v, *x)))
+    }
+
+    // Whether the voters of `v` are a quorum.
+    pub(crate) fn elects<R: Rule>(&self, rule: &R, v: V) -> bool
+        ensures { result ≡ (R.Rule.family rule.now).quorum (voters_of V.Setup.before v self.now.entries.now) }
+    {
+        rule.is_quorum(self.voters(v))
     }
 }
 
-// The first rows of a list that has room for them.
-pub(crate) fn first_rows<V>(list: &[Option<V>], boxes: usize, rows: usize) -> Written<V>
-    requires { (boxes ≤ 32) × (rows < length list.now / boxes) }
-    ensures { read result ≡ kept boxes list.now rows }
-{
-    Written { list, boxes, rows }
-}
-
-// What box `i` of a row has: none past its end.
-pub(crate) fn entry<V: Setup>(row: &[Option<V>], i: usize) -> Option<V>
-    ensures { result ≡ entry_of row.now i }
-{
-    if i < row.len() { row[i] } else { None }
-}
-
-// Whether two setups are the same: neither comes before the other.
+// Whether two setups are the same: neither comes before the other. No `PartialEq`, since it is not asked of a kind of setup.
 pub(crate) fn same<V: Setup>(v: V, w: V) -> bool
     ensures { result ≡ same_of V.Setup.before v w }
 {
@@ -54,28 +58,12 @@ pub(crate) fn same<V: Setup>(v: V, w: V) -> bool
 fn is<V: Setup>(v: V, entry: Option<V>) -> bool
     ensures { result ≡ is_of V.Setup.before v entry }
 {
-    match entry {
-        Some(w) => same(v, w),
-        None => false,
-    }
+    entry.is_some_and(|w| same(v, w))
 }
 
-// The set one box higher, with box 0 in it or not.
+// The set one box higher, with box 0 in it or not: what was box 31 is left out.
 fn below(set: BoxSet, there: bool) -> BoxSet
-    requires { set < 2 ^ 31 }
-    ensures { result ≡ (if there then 1 else 0) + 2 * set }
+    ensures { result ≡ (if there then 1 else 0) + 2 * set % 2 ^ 32 }
 {
-    if there { 2 * set + 1 } else { 2 * set }
-}
-
-// The set of the boxes that have `v` in the row.
-pub(crate) fn voters<V: Setup>(v: V, row: &[Option<V>]) -> BoxSet
-    requires { length row.now ≤ 32 }
-    ensures { result ≡ voters_of V.Setup.before v row.now }
-{
-    let mut set = 0;
-    for i in (0..row.len()).rev() {
-        set = below(set, is(v, row[i]));
-    }
-    set
+    (set << 1) + BoxSet::from(there)
 }

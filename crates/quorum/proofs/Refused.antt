@@ -1,8 +1,8 @@
 -- Checks in their order: the first that fails is the answer. Assumes nothing.
-use Rattle.std.proofs.Common.{◌≡◌, Bool, true, false, Some, None, Ok, Err, Option, Result, refl, subst}
+use Rattle.std.proofs.Common.{◌≡◌, Bool, true, false, Some, None, Ok, Err, Option, Result, sym, refl, subst}
 use Rattle.std.specs.Option.{option_map}
 use Rattle.quorum.specs.Refusals.{Answers, Does, either, unless}
-use Rattle.quorum.proofs.Somes.{some_none}
+use Rattle.quorum.proofs.Somes.{some_is, some_none}
 
 -- ---- when there is no reason to decline
 
@@ -75,3 +75,29 @@ module _ {X Y F : Type 0} where
   pub does : (first : Option F) (P : X → Type 0) (done : Y → Type 0) (kept : Type 0) (x : X) (y : Y) → Answers first P (Ok x) → done y → Does first done kept (Ok y)
   does None P done kept x y h d = d
   does (Some g) P done kept x y h d = absurd h
+
+-- ---- what holds of the fault of each check holds of the answer
+
+module _ {F : Type 0} (P : F → Type 0) where
+  abbrev pub Each : Option F → Type 0
+  Each reason = (f : F) → reason ≡ Some f → P f
+
+  pub each_either : (a b : Option F) → Each a → Each b → Each (either a b)
+  each_either None b h k f e = k f e
+  each_either (Some g) b h k f e = h f e
+
+  pub each_unless : (test : Bool) (g : F) → P g → Each (unless test g)
+  each_unless true g h f e = absurd (some_none (sym e))
+  each_unless false g h f e = subst P (some_is e) h
+
+  pub each_mapped : {A : Type 0} (make : A → F) (found : Option A) → ((a : A) → found ≡ Some a → P (make a)) → Each (option_map make found)
+  each_mapped make None h f e = absurd (some_none (sym e))
+  each_mapped make (Some a) h f e = subst P (some_is e) (h a refl)
+
+  pub each_answered : {X : Type 0} (reason : Option F) (Q : X → Type 0) (f : F) → Each reason → Answers reason Q (Err f) → P f
+  each_answered None Q f h d = absurd d
+  each_answered (Some g) Q f h d = subst P (sym d) (h g refl)
+
+  pub each_err : {X : Type 0} (reason : Option F) (done : X → Type 0) (kept : Type 0) (f : F) → Each reason → Does reason done kept (Err f) → P f
+  each_err None done kept f h d = absurd d
+  each_err (Some g) done kept f h d = subst P (sym d.0) (h g refl)

@@ -1,5 +1,5 @@
 -- The count of a set is the number of its boxes, counted one by one. Assumes nothing.
-use Rattle.std.proofs.Common.{◌≡◌, ℕ, zero, suc, ◌+◌, ◌/◌, ◌%◌, ◌^◌, ◌<◌, Bool, true, false, cond, refl, ap, ◌∙◌, pow-suc, one-add, arith}
+use Rattle.std.proofs.Common.{◌≡◌, ℕ, zero, suc, ◌+◌, ◌/◌, ◌%◌, ◌^◌, ◌<◌, ◌≤◌, count_ones, Bool, true, false, cond, refl, ap, ◌∙◌, pow-suc, one-add, arith}
 use lib.Count.{ones, ones-le, ones_step}
 use Rattle.std.proofs.lemmas.Bool.Decides.{nat_tests}
 use Rattle.quorum.specs.Sets.{has, tally}
@@ -35,3 +35,7 @@ count_tally (suc n) s h =
     let rest : ones (s / 2) ≡ tally (λ i. has s (suc i)) n =
     count_tally n (s / 2) half ∙ tally_same (has (s / 2)) (λ i. has s (suc i)) (λ i. has_shr s 1 i ∙ ap (has s) (one-add i)) n in
     omega (arith, ones_step s, low s, tally_low (has s) n)
+
+-- of a set of 32 bits
+pub size_tally : (s : ℕ) → s < 2 ^ 32 → (count_ones s ≡ tally (has s) 32) × (count_ones s ≤ 32)
+size_tally s h = (count_tally 32 s h, ones-le 32 s h)

@@ -1,11 +1,11 @@
 -- The laws of the rules that come with the library. Assumes nothing.
-use Rattle.std.specs.Prelude.{◌≡◌, ℕ, ◌+◌, ◌*◌, ◌^◌, ◌<◌, ◌≤◌, Bool, true, ◌&&◌, ◌||◌, ◌⊎◌, count_ones, nat_le}
+use Rattle.std.specs.Prelude.{◌≡◌, ℕ, ◌+◌, ◌*◌, ◌^◌, ◌<◌, ◌≤◌, Bool, true, ◌&&◌, ◌||◌, ◌⊎◌, count_ones, nat_le, nat_lt}
 use Rattle.std.proofs.Common.{inl, inr, sym, subst, ◌∙◌, arith}
 use Rattle.std.proofs.lemmas.Nat.{or_lt}
 use Rattle.std.specs.Int.Count.{ones-ones}
 use Rattle.std.proofs.Math.Pow.{ones_lt, pow-lt}
 use Rattle.std.proofs.lemmas.Bool.{and_from, and_parts, cases_lt, eq-eqb, eqb-true, le-leb, lt-ltb, ltb-true, or_cases, or_left, or_right}
-use Rattle.quorum.specs.Families.{anchored, present}
+use Rattle.quorum.specs.Families.{anchored, majority, present}
 use Rattle.quorum.specs.Rules.{ClearLawful, Family, Lawful, Roster}
 use Rattle.quorum.specs.Sets.{added, count, everyone, has, within}
 use Rattle.quorum.specs.Counts.{count_or, three_share, two_share}
@@ -44,6 +44,13 @@ counted_lawful n p sized t half = record {
       (t.more (count_ones s) (count_ones (added s i)) (count_or n s (2 ^ i) (below n s p h)) (passed n s p h));
   whole = counted_whole n p t;
 }
+
+-- twice the count exceeds n
+pub majority_lawful : (n : ℕ) → Roster n → Lawful (majority n)
+majority_lawful n sized =
+    counted_lawful n (λ k. nat_lt n (2 * k)) sized
+    (record { more = λ j k le h. lt-ltb n (2 * k) (omega (arith, ltb-true n (2 * j) h)); all = lt-ltb n (2 * n) (omega (arith, sized)) })
+    (λ k h. ltb-true n (2 * k) h)
 
 -- p tells the quorums, and q the clear sets
 pub counted_clear : (n : ℕ) (p q : ℕ → Bool) → Test n q → ((j k l : ℕ) → p j ≡ true → p k ≡ true → q l ≡ true → 2 * n < j + k + l) → ((k : ℕ) → q k ≡ true → p k ≡ true)

@@ -2,7 +2,6 @@
 #![tactic(auto)]
 
 pub mod anchored;
-pub mod boxes;
 pub mod majority;
 pub mod present;
 pub mod refusals;

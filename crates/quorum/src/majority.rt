@@ -1,11 +1,9 @@
 // Majority: a quorum has more than half of the boxes.
-ghost use Rattle.std.specs.Prelude.{◌≡◌, ◌*◌, nat_lt};
+ghost use Rattle.std.specs.Prelude.{◌≡◌};
 ghost use Rattle.quorum.specs.Families.{majority};
 ghost use Rattle.quorum.specs.Making.{no_roster};
 ghost use Rattle.quorum.specs.Refusals.{Answers};
-ghost use Rattle.std.proofs.Common.{arith};
-ghost use Rattle.std.proofs.lemmas.Bool.{lt-ltb, ltb-true};
-ghost use Rattle.quorum.specs.Laws.{counted_lawful};
+ghost use Rattle.quorum.specs.Laws.{majority_lawful};
 
 use crate::refusals::RuleFault;
 use crate::rosters::Roster;
@@ -30,11 +28,7 @@ impl Majority {
 impl Rule for Majority {
     ghost family = { λ x. majority x.roster.boxes };
 
-    ghost lawful = { λ x.
-        let n = x.roster.boxes in
-        counted_lawful n (λ k. nat_lt n (2 * k)) x.roster.sized
-        (record { more = λ j k le h. lt-ltb n (2 * k) (omega (arith, ltb-true n (2 * j) h)); all = lt-ltb n (2 * n) (omega (arith, x.roster.sized)) })
-        (λ k h. ltb-true n (2 * k) h) };
+    ghost lawful = { λ x. majority_lawful x.roster.boxes x.roster.sized };
 
     fn boxes(&self) -> usize {
         self.roster.boxes()

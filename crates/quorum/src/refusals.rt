@@ -1,25 +1,26 @@
 // What a call declines, the layer that declined it, and the place that it names.
-ghost use Rattle.std.specs.Prelude.{◌≡◌};
-ghost use Rattle.quorum.specs.declared.refusals.Fault.{Fault};
+ghost use Rattle.std.specs.Prelude.{◌≡◌, Some};
 ghost use Rattle.quorum.specs.Refusals.{number, of_rule, word};
 
-// Each reason to decline, in the order in which calls check for them.
+use std::fmt;
+
+// Each reason to decline, with its number, in the order in which calls check for them.
 #[derive(Clone, Copy, Debug, PartialEq)]
 pub enum Refusal {
-    Roster,
-    OtherRoster,
-    Size,
-    NoBox,
-    Length,
-    Closed,
-    Stranger,
-    Wait,
-    NoRow,
-    Defection,
-    Unbacked,
-    Long,
-    Key,
-    Value,
+    Roster = 1,
+    OtherRoster = 2,
+    Size = 3,
+    NoBox = 4,
+    Length = 5,
+    Closed = 6,
+    Stranger = 7,
+    Wait = 8,
+    NoRow = 9,
+    Defection = 10,
+    Unbacked = 11,
+    Long = 12,
+    Key = 13,
+    Value = 14,
 }
 
 impl Refusal {
@@ -27,22 +28,7 @@ impl Refusal {
     pub fn number(self) -> u8
         ensures { result ≡ number self }
     {
-        match self {
-            Refusal::Roster => 1,
-            Refusal::OtherRoster => 2,
-            Refusal::Size => 3,
-            Refusal::NoBox => 4,
-            Refusal::Length => 5,
-            Refusal::Closed => 6,
-            Refusal::Stranger => 7,
-            Refusal::Wait => 8,
-            Refusal::NoRow => 9,
-            Refusal::Defection => 10,
-            Refusal::Unbacked => 11,
-            Refusal::Long => 12,
-            Refusal::Key => 13,
-            Refusal::Value => 14,
-        }
+        self as u8
     }
 }
 
@@ -56,7 +42,7 @@ pub enum Layer {
 }
 
 impl Layer {
-    // The word by which a report names the layer.
+    // The word by which a report names the layer; a function too, for a text without a formatter.
     pub fn word(self) -> &'static str
         ensures { result.now ≡ word self }
     {
@@ -69,20 +55,21 @@ impl Layer {
     }
 }
 
-// A refusal as it is reported: the place is a box, the rank of a list, or 0.
+impl fmt::Display for Layer {
+    ghost output = { λ layer. Some (word layer) };
+
+    fn fmt<W: fmt::Write>(&self, f: &mut fmt::Formatter<W>) -> fmt::Result {
+        f.write_str(self.word())
+    }
+}
+
+// A refusal as it is reported. What a layer declines with is made into one by `From`; a layer above holds the fault of the one below inside its own, and reports it unchanged.
 #[derive(Clone, Copy, Debug, PartialEq)]
 pub struct Fault {
     pub refusal: Refusal,
     pub layer: Layer,
+    // a box, the rank of a list, or 0: one number for every refusal, as reports give it
     pub place: usize,
-}
-
-// What a layer declines with. A layer above holds the fault of the one below inside its own, and reports it unchanged.
-pub trait Declines {
-    ghost reported: { Self → Fault };
-
-    fn fault(&self) -> Fault
-        ensures { result ≡ reported self.now };
 }
 
 // What the making of a rule declines with.
@@ -93,11 +80,11 @@ pub enum RuleFault {
     NoBox,
 }
 
-impl Declines for RuleFault {
-    ghost reported = { of_rule };
+impl From<RuleFault> for Fault {
+    ghost from_gives = { λ fault r. r ≡ of_rule fault };
 
-    fn fault(&self) -> Fault {
-        let refusal = match self {
+    fn from(fault: RuleFault) -> Fault {
+        let refusal = match fault {
             RuleFault::Roster => Refusal::Roster,
             RuleFault::Size => Refusal::Size,
             RuleFault::NoBox => Refusal::NoBox,

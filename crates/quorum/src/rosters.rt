@@ -17,7 +17,7 @@ impl Roster {
     pub fn new(boxes: usize) -> Result<Roster, RuleFault>
         ensures { Answers (no_roster boxes) (λ x. x.boxes ≡ boxes) result }
     {
-        if boxes >= 1 && boxes <= MAX_BOXES {
+        if (1..=MAX_BOXES).contains(&boxes) {
             Ok(Roster { boxes })
         } else {
             Err(RuleFault::Roster)

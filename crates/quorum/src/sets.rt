@@ -14,22 +14,15 @@ pub fn contains(set: BoxSet, i: usize) -> bool
     i < MAX_BOXES && (set >> i) % 2 == 1
 }
 
-// How many bits are set.
-fn ones(set: BoxSet) -> u32
-    ensures value { result ≡ count set }
-    ensures boxes { result ≡ tally (has set) 32 }
-    ensures bound { result ≤ 32 }
-{
-    set.count_ones()
-}
-
 // How many boxes the set has.
+#[tactic(auto, using(crate::proofs::Tallies::size_tally))]
 pub fn size(set: BoxSet) -> usize
     ensures value { result ≡ count set }
     ensures boxes { result ≡ tally (has set) 32 }
     ensures bound { result ≤ 32 }
 {
-    ones(set) as usize
+    // at most 32
+    set.count_ones() as usize
 }
 
 // What the set has at box `n` and above, moved down to box 0.

@@ -47,6 +47,13 @@ impl Sizes {
             clear: most,
         })
     }
+
+    // Whether the set has no stranger, and so many boxes or more.
+    fn has_at_least(&self, least: usize, set: BoxSet) -> bool
+        ensures { result ≡ at_least self.now.roster.boxes least set }
+    {
+        fits(set, self.roster.boxes()) && size(set) >= least
+    }
 }
 
 impl Rule for Sizes {
@@ -59,7 +66,7 @@ impl Rule for Sizes {
     }
 
     fn is_quorum(&self, set: BoxSet) -> bool {
-        fits(set, self.roster.boxes()) && size(set) >= self.quorum
+        self.has_at_least(self.quorum, set)
     }
 }
 
@@ -69,6 +76,6 @@ impl ClearView for Sizes {
     ghost clear_lawful = { λ x. sizes_clear x.roster.boxes x.quorum x.clear x.fitting };
 
     fn is_clear(&self, set: BoxSet) -> bool {
-        fits(set, self.roster.boxes()) && size(set) >= self.clear
+        self.has_at_least(self.clear, set)
     }
 }

@@ -1,7 +1,8 @@
 -- Setups read one line at a time. Assumes nothing.
-use Rattle.std.proofs.Common.{◌≡◌, ℕ, suc, ◌+◌, ◌-◌, ◌<◌, List, [], ◌∷◌, ◌++◌, Ok, Err, codes, Result, sym, refl, ap, ◌∙◌, append_assoc, arith}
+use Rattle.std.proofs.Common.{◌≡◌, ℕ, suc, ◌+◌, ◌-◌, ◌<◌, Bool, true, false, cond, ltb, List, [], ◌∷◌, ◌++◌, length, Some, None, Ok, Err, codes, Result, sym, refl, ap, ◌∙◌, append_assoc, arith, length-append}
 use Rattle.shift.specs.declared.faults.TextFault.{TextFault}
 use Rattle.shift.specs.Entries.{after}
+use Rattle.shift.specs.Lists.{extended}
 use Rattle.shift.specs.Numbers.{number}
 use Rattle.shift.specs.Told.{told, and_then}
 use Rattle.seat.specs.Heads.{field, line_due, past, setups_of}
@@ -32,15 +33,26 @@ module _ (m i n : ℕ) (text t xs : List ℕ) (whole : Result (List ℕ) TextFau
   again : after_these xs (setups_of text (suc (m - (i + 1))) n t) ≡ whole
   again = let e : suc (m - (i + 1)) ≡ m - i = omega arith in ap (λ k. after_these xs (setups_of text k n t)) e ∙ inv
 
-  pub goes_on : (s n' : ℕ) (text' t' ys : List ℕ) → Ok s ≡ field number (line_due text (codes "setup") n t) → text' ≡ text → n' ≡ n + 1 → t' ≡ after t → ys ≡ xs ++ s ∷ [] → after_these ys (setups_of text' (m - (i + 1)) n' t') ≡ whole
-  goes_on s n' text' t' ys e et en er ey =
-      ap (λ y. after_these y (setups_of text' (m - (i + 1)) n' t')) ey ∙ ap (λ x. after_these (xs ++ s ∷ []) (setups_of x (m - (i + 1)) n' t')) et ∙ ap (λ x. after_these (xs ++ s ∷ []) (setups_of text (m - (i + 1)) x t')) en ∙ ap (λ x. after_these (xs ++ s ∷ []) (setups_of text (m - (i + 1)) (n + 1) x)) er ∙ sym (one_setup text (m - (i + 1)) n t xs s e) ∙ again
+  pub goes_on : (s : ℕ) → Ok s ≡ field number (line_due text (codes "setup") n t) → after_these (xs ++ s ∷ []) (setups_of text (m - (i + 1)) (n + 1) (after t)) ≡ whole
+  goes_on s e = sym (one_setup text (m - (i + 1)) n t xs s e) ∙ again
 
   pub stops : (f : TextFault) → Err f ≡ field number (line_due text (codes "setup") n t) → Err f ≡ whole
   stops f e = sym (no_setup text (m - (i + 1)) n t xs f e) ∙ again
 
 -- the same of what is left
-pub past_one : (m i : ℕ) (t t' u : List ℕ) → i < m → past (m - i) t ≡ u → t' ≡ after t → past (m - (i + 1)) t' ≡ u
-past_one m i t t' u h inv e =
-    let k : m - i ≡ suc (m - (i + 1)) = omega arith in
-    ap (past (m - (i + 1))) e ∙ sym (ap (λ n. past n t) k) ∙ inv
+pub past_more : (m i : ℕ) (t : List ℕ) → i < m → past (m - i) t ≡ past (m - (i + 1)) (after t)
+past_more m i t h = let k : m - i ≡ suc (m - (i + 1)) = omega arith in ap (λ n. past n t) k
+
+-- a list that takes one more number
+taken_by : (xs ys : List ℕ) (n : ℕ) (t : Bool) → Some ys ≡ cond t (Some (xs ++ n ∷ [])) None → ys ≡ xs ++ n ∷ []
+taken_by xs ys n true e = cc
+taken_by xs ys n false e = cc
+
+pub one_after : (xs ys : List ℕ) (n : ℕ) → Some ys ≡ extended xs n → ys ≡ xs ++ n ∷ []
+one_after xs ys n e = taken_by xs ys n (ltb (length xs) 32) e
+
+pub one_longer_after : (xs ys : List ℕ) (n : ℕ) → Some ys ≡ extended xs n → length ys ≡ length xs + 1
+one_longer_after xs ys n e = omega (arith, ap length (one_after xs ys n e), length-append xs (n ∷ []))
+
+-- what a turn of the loop over the setups takes
+pub ruleset turns = (goes_on, stops, past_more, one_after, one_longer_after)

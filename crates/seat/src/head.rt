@@ -2,19 +2,17 @@
 ghost use Rattle.std.specs.Prelude.{◌≡◌, ◌+◌, ◌<◌, IfOk, codes, OnOk};
 ghost use Rattle.seat.specs.Heads.{field, head_of, line_due, past, roster_of, setups_of};
 ghost use Rattle.seat.specs.Named.{family};
+ghost use Rattle.seat.specs.Reading.{HasRead};
 ghost use Rattle.seat.specs.Summaries.{summary};
 ghost use Rattle.shift.specs.Entries.{after};
 ghost use Rattle.shift.specs.Lines.{left};
 ghost use Rattle.shift.specs.Lists.{listed, numbers};
-ghost use Rattle.shift.specs.Names.{procedure, rule};
-ghost use Rattle.shift.specs.Numbers.{number};
 ghost use Rattle.shift.specs.Told.{told};
-ghost use Rattle.std.specs.Result.{result_map_both};
 
 use crate::named::NamedRule;
-use quorum::refusals::RuleFault;
 use quorum::rosters::Roster;
-use shift::faults::{Spot, TextFault};
+use shift::faults::TextFault;
+use shift::forms::Form;
 use shift::list::Numbers;
 use shift::names::{ProcedureName, RuleName};
 use shift::reader::Reader;
@@ -26,16 +24,6 @@ pub struct Head {
     pub setups: Numbers,
 }
 
-// A rule's answer, with the spot that asked for it.
-fn at<T>(answer: Result<T, RuleFault>, spot: Spot) -> Result<T, (RuleFault, Spot)>
-    ensures { result ≡ result_map_both (λ x. x) (λ f. (f, spot)) answer }
-{
-    match answer {
-        Ok(x) => Ok(x),
-        Err(fault) => Err((fault, spot)),
-    }
-}
-
 // The head of the text, read line by line; the roster is judged on its own line.
 pub fn read_head(reader: &mut Reader<'_>) -> Result<Head, TextFault>
     ensures value { told summary result ≡ head_of reader.old.text.now reader.old.line (left reader.old) }
@@ -44,8 +32,8 @@ pub fn read_head(reader: &mut Reader<'_>) -> Result<Head, TextFault>
     ensures line { IfOk result (λ h. reader.new.line ≡ reader.old.line + 3 + (family h.rule).boxes) }
 {
     let roster = read_roster(reader)?;
-    let name = read_rule(reader)?;
-    let procedure = read_procedure(reader)?;
+    let name = field::<RuleName>(reader, b"rule")?;
+    let procedure = field::<ProcedureName>(reader, b"procedure")?;
     let setups = read_setups(reader, roster)?;
     Ok(Head {
         rule: NamedRule::new(name, roster),
@@ -57,68 +45,42 @@ pub fn read_head(reader: &mut Reader<'_>) -> Result<Head, TextFault>
 // The roster, which is judged on its own line.
 fn read_roster(reader: &mut Reader<'_>) -> Result<Roster, TextFault>
     ensures value { told (λ x. x.boxes) result ≡ roster_of (line_due reader.old.text.now (codes "boxes") reader.old.line (left reader.old)) }
-    ensures text { reader.new.text ≡ reader.old.text }
-    ensures rest { OnOk result (left reader.new ≡ after (left reader.old)) }
-    ensures line { OnOk result (reader.new.line ≡ reader.old.line + 1) }
+    ensures read { HasRead 1 reader.old result reader.new }
 {
     let line = reader.due(b"boxes")?;
-    let boxes = line.number()? as usize;
-    Ok(at(Roster::new(boxes), line.spot)?)
-}
-
-fn read_rule(reader: &mut Reader<'_>) -> Result<RuleName, TextFault>
-    ensures value { result ≡ field rule (line_due reader.old.text.now (codes "rule") reader.old.line (left reader.old)) }
-    ensures text { reader.new.text ≡ reader.old.text }
-    ensures rest { OnOk result (left reader.new ≡ after (left reader.old)) }
-    ensures line { OnOk result (reader.new.line ≡ reader.old.line + 1) }
-{
-    reader.due(b"rule")?.rule()
-}
-
-fn read_procedure(reader: &mut Reader<'_>) -> Result<ProcedureName, TextFault>
-    ensures value { result ≡ field procedure (line_due reader.old.text.now (codes "procedure") reader.old.line (left reader.old)) }
-    ensures text { reader.new.text ≡ reader.old.text }
-    ensures rest { OnOk result (left reader.new ≡ after (left reader.old)) }
-    ensures line { OnOk result (reader.new.line ≡ reader.old.line + 1) }
-{
-    reader.due(b"procedure")?.procedure()
+    // a `usize` holds every `u32`
+    let boxes = line.read::<u32>()? as usize;
+    Roster::new(boxes).map_err(|fault| TextFault::from((fault, line.spot)))
 }
 
 // A setup for each box of the roster.
+#[tactic(auto, using(crate::proofs::Setups::turns))]
 fn read_setups(reader: &mut Reader<'_>, roster: Roster) -> Result<Numbers, TextFault>
     ensures value { told listed result ≡ setups_of reader.old.text.now roster.boxes reader.old.line (left reader.old) }
-    ensures text { reader.new.text ≡ reader.old.text }
-    ensures rest { OnOk result (left reader.new ≡ past roster.boxes (left reader.old)) }
-    ensures line { OnOk result (reader.new.line ≡ reader.old.line + roster.boxes) }
+    ensures read { HasRead roster.boxes reader.old result reader.new }
 {
     let mut setups = Numbers::empty();
     for _i in 0..roster.boxes() {
-        let setup = read_setup(reader)?;
-        setups = match setups.with(setup) {
-            Some(more) => more,
-            None => unreachable(),
-        };
+        let setup = field(reader, b"setup")?;
+        setups = setups.with(setup).unwrap();
     }
     Ok(setups)
 }
 
-// The heard sets of the next line, which is to be a beat.
+// The heard sets of the next line, which is to be a beat: the one place that says by which key.
 pub fn read_beat(reader: &mut Reader<'_>) -> Result<Numbers, TextFault>
     ensures value { told listed result ≡ field numbers (line_due reader.old.text.now (codes "beat") reader.old.line (left reader.old)) }
-    ensures text { reader.new.text ≡ reader.old.text }
-    ensures rest { OnOk result (left reader.new ≡ after (left reader.old)) }
-    ensures line { OnOk result (reader.new.line ≡ reader.old.line + 1) }
+    ensures read { HasRead 1 reader.old result reader.new }
     ensures moves { OnOk result (reader.old.at < reader.new.at) }
 {
-    reader.due(b"beat")?.numbers()
+    field(reader, b"beat")
 }
 
-// The setup that the next line has.
-fn read_setup(reader: &mut Reader<'_>) -> Result<u32, TextFault>
-    ensures value { result ≡ field number (line_due reader.old.text.now (codes "setup") reader.old.line (left reader.old)) }
-    ensures text { reader.new.text ≡ reader.old.text }
-    ensures rest { OnOk result (left reader.new ≡ after (left reader.old)) }
-    ensures line { OnOk result (reader.new.line ≡ reader.old.line + 1) }
+// The value of the next line, which is to have the key, by its form.
+fn field<T: Form>(reader: &mut Reader<'_>, key: &[u8]) -> Result<T, TextFault>
+    ensures value { told T.said result ≡ field T.form (line_due reader.old.text.now key.now reader.old.line (left reader.old)) }
+    ensures read { HasRead 1 reader.old result reader.new }
+    ensures moves { OnOk result (reader.old.at < reader.new.at) }
 {
-    reader.due(b"setup")?.number()
+    reader.due(key)?.read()
 }

@@ -4,11 +4,9 @@
 use head::{read_beat, read_head};
 use hearing::hearers;
 use named::NamedRule;
-use quorum::refusals::{Declines, Refusal};
-use quorum::rules::Rule;
-use shift::faults::TextFault;
+use quorum::refusals::Refusal;
 use shift::list::Numbers;
-use shift::reader::Reader;
+use shift::reader::{LONGEST, Reader};
 use std::io;
 use std::io::Read;
 
@@ -16,8 +14,8 @@ mod head;
 mod hearing;
 mod named;
 
-// One byte more than a text can have.
-const ENOUGH: u64 = 32769;
+// One byte more than a text can have; a `u64` holds every `usize`.
+const ENOUGH: u64 = LONGEST as u64 + 1;
 
 fn main(rt: HostRuntime) -> io::Result<()> {
     let mut text = Vec::new(rt.alloc());
@@ -29,62 +27,29 @@ fn main(rt: HostRuntime) -> io::Result<()> {
 fn answer(rt: &HostRuntime, text: &[u8]) -> io::Result<()> {
     let mut reader = Reader::new(text);
     match read_head(&mut reader) {
-        Ok(head) => match head.rule {
-            NamedRule::Majority(rule) => beats(rt, &mut reader, &rule),
-            NamedRule::Thirds(rule) => beats(rt, &mut reader, &rule),
-            NamedRule::Anchored(rule) => beats(rt, &mut reader, &rule),
-        },
-        Err(fault) => print_fault(rt, fault),
+        Ok(head) => beats(rt, &mut reader, &head.rule),
+        Err(fault) => println!(rt; "{fault}"),
     }
 }
 
 // Writes a line for each beat that is left.
-fn beats<R: Rule>(rt: &HostRuntime, reader: &mut Reader<'_>, rule: &R) -> io::Result<()> {
+fn beats(rt: &HostRuntime, reader: &mut Reader<'_>, rule: &NamedRule) -> io::Result<()> {
     while !reader.at_end() {
         match read_beat(reader) {
             Ok(heard) => print_beat(rt, hearers(rule, heard.as_slice()))?,
-            Err(fault) => return print_fault(rt, fault),
+            Err(fault) => return println!(rt; "{fault}"),
         }
     }
     Ok(())
 }
 
-// The boxes that heard a quorum; a beat that has not a number for each box is declined.
-fn print_beat(rt: &HostRuntime, answer: Option<Numbers>) -> io::Result<()> {
+// The boxes that heard a quorum, or the number of the refusal.
+fn print_beat(rt: &HostRuntime, answer: Result<Numbers, Refusal>) -> io::Result<()> {
     match answer {
-        Some(boxes) => {
-            print!(rt; "quorum=")?;
-            print_list(rt, boxes.as_slice())
-        }
-        None => {
-            let number = Refusal::Length.number();
+        Ok(boxes) => println!(rt; "quorum={boxes}"),
+        Err(refusal) => {
+            let number = refusal.number();
             println!(rt; "declined={number}")
         }
     }
-}
-
-// Numbers with commas between them, `-` for none.
-fn print_list(rt: &HostRuntime, list: &[u32]) -> io::Result<()> {
-    let Some((first, more)) = list.split_first() else {
-        return println!(rt; "-");
-    };
-    print!(rt; "{first}")?;
-    for n in more {
-        print!(rt; ",{n}")?;
-    }
-    println!(rt; "")
-}
-
-fn print_fault(rt: &HostRuntime, found: TextFault) -> io::Result<()> {
-    let fault = found.fault();
-    let number = fault.refusal.number();
-    let layer = fault.layer.word();
-    let place = fault.place;
-    let line = found.spot.line;
-    let column = found.spot.column;
-    println!(rt; "fault={number}")?;
-    println!(rt; "layer={layer}")?;
-    println!(rt; "place={place}")?;
-    println!(rt; "line={line}")?;
-    println!(rt; "column={column}")
 }

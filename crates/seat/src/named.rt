@@ -1,11 +1,13 @@
 // The rule that a text asks for, by its name and the roster.
 ghost use Rattle.std.specs.Prelude.{◌≡◌};
+ghost use Rattle.seat.specs.Laws.{named_lawful};
 ghost use Rattle.seat.specs.Named.{family, named};
 
 use quorum::anchored::Anchored;
 use quorum::majority::Majority;
 use quorum::rosters::Roster;
 use quorum::rules::Rule;
+use quorum::sets::BoxSet;
 use quorum::sizes::Sizes;
 use shift::names::RuleName;
 
@@ -16,44 +18,41 @@ pub enum NamedRule {
     Anchored(Anchored<Majority>),
 }
 
-// A roster is never refused here, since it was judged as it was made.
-fn majority(roster: Roster) -> Majority
-    ensures { result.roster.boxes ≡ roster.boxes }
-{
-    match Majority::new(roster.boxes()) {
-        Ok(rule) => rule,
-        Err(_) => unreachable(),
-    }
-}
-
-fn thirds(roster: Roster) -> Sizes
-    ensures { family (NamedRule.Thirds result) ≡ named RuleName.Thirds roster.boxes }
-{
-    match Sizes::thirds(roster.boxes()) {
-        Ok(rule) => rule,
-        Err(_) => unreachable(),
-    }
-}
-
-// Anchored on box 0.
-fn anchored(roster: Roster) -> Anchored<Majority>
-    ensures { family (NamedRule.Anchored result) ≡ named RuleName.Anchored roster.boxes }
-{
-    match Anchored::new(majority(roster), 0) {
-        Ok(rule) => rule,
-        Err(_) => unreachable(),
-    }
-}
-
 impl NamedRule {
-    // The rule of that name on the roster.
+    // The rule of that name on the roster, which no making refuses, since it was judged as it was made. Anchored stands on box 0.
     pub fn new(name: RuleName, roster: Roster) -> NamedRule
         ensures { family result ≡ named name roster.boxes }
     {
+        let boxes = roster.boxes();
         match name {
-            RuleName::Majority => NamedRule::Majority(majority(roster)),
-            RuleName::Thirds => NamedRule::Thirds(thirds(roster)),
-            RuleName::Anchored => NamedRule::Anchored(anchored(roster)),
+            RuleName::Majority => NamedRule::Majority(Majority::new(boxes).unwrap()),
+            RuleName::Thirds => NamedRule::Thirds(Sizes::thirds(boxes).unwrap()),
+            RuleName::Anchored => {
+                let below = Majority::new(boxes).unwrap();
+                NamedRule::Anchored(Anchored::new(below, 0).unwrap())
+            },
+        }
+    }
+}
+
+impl Rule for NamedRule {
+    ghost family = { family };
+
+    ghost lawful = { named_lawful };
+
+    fn boxes(&self) -> usize {
+        match self {
+            NamedRule::Majority(rule) => rule.boxes(),
+            NamedRule::Thirds(rule) => rule.boxes(),
+            NamedRule::Anchored(rule) => rule.boxes(),
+        }
+    }
+
+    fn is_quorum(&self, set: BoxSet) -> bool {
+        match self {
+            NamedRule::Majority(rule) => rule.is_quorum(set),
+            NamedRule::Thirds(rule) => rule.is_quorum(set),
+            NamedRule::Anchored(rule) => rule.is_quorum(set),
         }
     }
 }

@@ -1,6 +1,6 @@
 -- What the search gives: the fold of its loop, and that it is the first. Assumes nothing.
 use Rattle.std.proofs.Common.{◌≡◌, ℕ, zero, suc, ◌+◌, ◌<◌, ◌≤◌, Bool, true, false, cond, ◌⊎◌, List, [], ◌∷◌, map, length, get_or, Some, None, Option, sym, refl, ap, ◌∙◌, subst, inl, inr, add-zero, zero-add, arith}
-use Rattle.std.proofs.lemmas.List.{at_drop_all, at_drop_more, get_or-map}
+use Rattle.std.proofs.lemmas.List.{at_drop_all, at_drop_more, get_or-map, length-map}
 use Rattle.std.proofs.lemmas.Bool.{both_ways, cases_Bool, cond-false, cond-true}
 use Rattle.quorum.specs.Sets.{has}
 use Rattle.quorum.proofs.Somes.{some_is, some_none}
@@ -18,6 +18,26 @@ entry_among (x ∷ row) s k zero = ap (λ (j : ℕ). cond (has s j) x None) (sym
 entry_among (x ∷ row) s k (suc i) =
     let next : k + 1 + i ≡ k + suc i = omega arith in
     entry_among row s (k + 1) i ∙ ap (λ (j : ℕ). cond (has s j) (entry row i) None) next
+
+-- what is left of the search at box i: what it has, if it is in the set, and what is left at the next
+onward_at : {V : Type 0} (before : V → V → Bool) (row : List (Option V)) (s i : ℕ) (y : Option V) → i < length row → y ≡ cond (has s i) (entry row i) None
+    → onward before row s i ≡ sooner before y (onward before row s (i + 1))
+onward_at {V} before row s i y lt here =
+    at_drop_more (λ (l : List (Option V)). first before (among l s i)) row i None lt ∙ ap (λ (x : Option V). sooner before x (onward before row s (i + 1))) (sym here)
+
+-- what a turn of the search does with a box of the set, and with any other
+pub turn_takes : {T V : Type 0} (before : V → V → Bool) (f : T → Option V) (row : List T) (s i : ℕ) (x : T) (best y r all : Option V) → i < length row → x ≡ get_or row i x
+    → true ≡ has s i → y ≡ f x → ((rest : Option V) → sooner before r rest ≡ sooner before best (sooner before y rest)) → sooner before best (onward before (map f row) s i) ≡ all
+    → sooner before r (onward before (map f row) s (i + 1)) ≡ all
+turn_takes {T} {V} before f row s i x best y r all lt at inside read moves so_far =
+    let here = read ∙ ap f at ∙ sym (get_or-map f row i x None lt) ∙ sym (cond-true (has s i) _ None (sym inside)) in
+    moves (onward before (map f row) s (i + 1)) ∙ ap (sooner before best) (sym (onward_at before (map f row) s i y (simp length-map lt) here)) ∙ so_far
+
+pub turn_passes : {T V : Type 0} (before : V → V → Bool) (f : T → Option V) (row : List T) (s i : ℕ) (best all : Option V) → i < length row → false ≡ has s i
+    → sooner before best (onward before (map f row) s i) ≡ all → sooner before best (onward before (map f row) s (i + 1)) ≡ all
+turn_passes {T} {V} before f row s i best all lt outside so_far =
+    let here = sym (cond-false (has s i) (entry (map f row) i) None (sym outside)) in
+    ap (sooner before best) (sym (onward_at before (map f row) s i None (simp length-map lt) here)) ∙ so_far
 
 module _ {V : Type 0} {before : V → V → Bool} (o : Ordered before) where
   -- no two come before each other
@@ -37,42 +57,10 @@ module _ {V : Type 0} {before : V → V → Bool} (o : Ordered before) where
       go (inl e) (inl d) = absurd (both_ways (before a b) h (o.transitive a c b e d))
       go (inl e) (inr d) = absurd (both_ways (before a b) h (subst (λ (x : V). before a x ≡ true) (sym (o.total b c g d)) e))
 
-  sooner_three : (a b c : V) (p q : Bool) → before b a ≡ p → before c b ≡ q
-      → ◌≡◌ {A = V} (cond (before (cond q c b) a) (cond q c b) a) (cond (before c (cond p b a)) c (cond p b a))
-  sooner_three a b c true true h g = cond-true _ c a (o.transitive c b a g h) ∙ sym (cond-true _ c b g)
-  sooner_three a b c true false h g = cond-true _ b a h ∙ sym (cond-false _ c b g)
-  sooner_three a b c false true h g = refl
-  sooner_three a b c false false h g = cond-false _ b a h ∙ sym (cond-false _ c a (chain c b a g h))
-
-  -- which of two is taken first does not matter
-  pub sooner_assoc : (x y z : Option V) → sooner before x (sooner before y z) ≡ sooner before (sooner before x y) z
-  sooner_assoc None y z = refl
-  sooner_assoc (Some a) None z = refl
-  sooner_assoc (Some a) (Some b) None = refl
-  sooner_assoc (Some a) (Some b) (Some c) = ap {B = Option V} Some (sooner_three a b c (before b a) (before c b) refl refl)
-
   -- none adds nothing
   pub sooner_none : (x : Option V) → sooner before x None ≡ x
   sooner_none None = refl
   sooner_none (Some a) = refl
-
-  -- what a turn takes from a box of the set, and from any other
-  pub turn_takes : {T : Type 0} (f : T → Option V) (row : List T) (s i : ℕ) (x : T) (y best r : Option V) → i < length row → x ≡ get_or row i x → true ≡ has s i → y ≡ f x
-      → r ≡ sooner before best y → r ≡ sooner before best (cond (has s i) (entry (map f row) i) None)
-  turn_takes f row s i x y best r lt at inside is_y is =
-      is ∙ ap (sooner before best) (is_y ∙ ap f at ∙ sym (get_or-map f row i x None lt) ∙ sym (cond-true (has s i) _ None (sym inside)))
-
-  pub turn_keeps : (s i : ℕ) (y best : Option V) → false ≡ has s i → best ≡ sooner before best (cond (has s i) y None)
-  turn_keeps s i y best outside = sym (sooner_none best) ∙ ap (sooner before best) (sym (cond-false (has s i) y None (sym outside)))
-
-  -- one turn of the search moves what box i has from what is left into the best so far
-  pub turn_onward : (row : List (Option V)) (s i : ℕ) (best r : Option V) → i < length row → r ≡ sooner before best (cond (has s i) (entry row i) None)
-      → sooner before r (onward before row s (i + 1)) ≡ sooner before best (onward before row s i)
-  turn_onward row s i best r lt is =
-      let here = cond (has s i) (entry row i) None in
-      let left = onward before row s (i + 1) in
-      ap (λ (x : Option V). sooner before x left) is ∙ sym (sooner_assoc best here left)
-      ∙ ap (sooner before best) (sym (at_drop_more (λ (l : List (Option V)). first before (among l s i)) row i None lt))
 
   -- nothing is left past the end
   pub turns_done : (row : List (Option V)) (s i : ℕ) (best : Option V) → length row ≤ i → sooner before best (onward before row s i) ≡ first before (among row s 0)

@@ -18,13 +18,8 @@ impl Setup for Card {
     ghost ordered = { keyed_ordered card_key (λ a b e i. record { ring = (e i).0; chainage = (e i).1.0; station = (e i).1.1 })
         (lexical_ordered unsigned_ordered (lexical_ordered signed_ordered unsigned_ordered)) };
 
+    // By the key that the trade goes by, in its order, and not by how the fields happen to stand.
     fn comes_before(&self, other: &Card) -> bool {
-        if self.ring != other.ring {
-            return self.ring < other.ring;
-        }
-        if self.chainage != other.chainage {
-            return self.chainage < other.chainage;
-        }
-        self.station < other.station
+        (self.ring, self.chainage, self.station) < (other.ring, other.chainage, other.station)
     }
 }

@@ -6,7 +6,7 @@ ghost use Rattle.setup.specs.Rows.{among, entry as entry_of, first as first_of, 
 use crate::orders::Setup;
 use quorum::sets::{BoxSet, contains};
 
-// What a search reads of each entry of a row: a setup or none.
+// What a search reads of each entry of a row: a setup or none. A trait and not a closure: a call that takes a closure has a `requires`, and no public call has one.
 pub trait Field<T, V> {
     ghost reads: { Self → T → Option V };
 
@@ -40,7 +40,8 @@ impl<V: Setup> Field<Option<V>, V> for Optional {
 
 // The one of two that comes first.
 fn sooner<V: Setup>(a: Option<V>, b: Option<V>) -> Option<V>
-    ensures { result ≡ sooner_of V.Setup.before a b }
+    ensures value { result ≡ sooner_of V.Setup.before a b }
+    ensures moves { (rest : Option V) → sooner_of V.Setup.before result rest ≡ sooner_of V.Setup.before a (sooner_of V.Setup.before b rest) }
 {
     match (a, b) {
         (None, y) => y,
@@ -49,33 +50,17 @@ fn sooner<V: Setup>(a: Option<V>, b: Option<V>) -> Option<V>
     }
 }
 
-// One turn of the search: the best so far, or what box `i` has, if it is in the set and comes first.
-fn turn<T, V: Setup, F: Field<T, V>>(
-    best: Option<V>,
-    field: &F,
-    row: &[T],
-    set: BoxSet,
-    i: usize,
-) -> Option<V>
-    requires { i < length row.now }
-    ensures value { result ≡ sooner_of V.Setup.before best (if has set i then entry_of (map (F.Field.reads field.now) row.now) i else None) }
-    ensures onward { sooner_of V.Setup.before result (onward V.Setup.before (map (F.Field.reads field.now) row.now) set (i + 1)) ≡ sooner_of V.Setup.before best (onward V.Setup.before (map (F.Field.reads field.now) row.now) set i) }
-{
-    if contains(set, i) {
-        sooner(best, field.read(&row[i]))
-    } else {
-        best
-    }
-}
-
 // The first setup among the boxes of the set, as `field` reads it from their entries in the row.
+#[tactic(auto, using(crate::proofs::Searching::turn_takes, crate::proofs::Searching::turn_passes))]
 pub fn first<T, V: Setup, F: Field<T, V>>(field: &F, row: &[T], set: BoxSet) -> Option<V>
     ensures value { result ≡ first_of V.Setup.before (among (map (F.Field.reads field.now) row.now) set 0) }
     ensures law { IsFirst V.Setup.before (map (F.Field.reads field.now) row.now) set result }
 {
     let mut best = None;
-    for i in 0..row.len() {
-        best = turn(best, field, row, set, i);
+    for (i, item) in row.iter().enumerate() {
+        if contains(set, i) {
+            best = sooner(best, field.read(item));
+        }
     }
     best
 }

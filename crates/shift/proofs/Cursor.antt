@@ -1,5 +1,5 @@
 -- What a reader takes off its text. Assumes nothing.
-use Rattle.std.proofs.Common.{◌≡◌, ℕ, ◌+◌, ◌≤◌, true, cond, leb, List, [], ◌∷◌, ◌++◌, length, drop, Some, None, Ok, Err, Option, sym, refl, ap, ◌∙◌, append_assoc, arith, length-append}
+use Rattle.std.proofs.Common.{◌≡◌, ℕ, ◌+◌, ◌≤◌, Bool, true, false, not, cond, leb, List, [], ◌∷◌, ◌++◌, length, drop, Some, None, Ok, Err, Option, sym, refl, ap, ◌∙◌, append_assoc, arith, length-append}
 use Rattle.std.proofs.lemmas.Slice.Eq.{bytes_eq-Decides}
 use Rattle.std.proofs.lemmas.List.{drop_at, drop-drop}
 use Rattle.std.proofs.lemmas.Bool.{le-leb, cond-true, eqb-true}
@@ -11,11 +11,11 @@ use Rattle.shift.specs.Entries.{of_line, entry, rest_of, after}
 use Rattle.shift.specs.Faults.{at_line}
 use Rattle.shift.specs.Lines.{with_key}
 use Rattle.shift.specs.Parts.{parted}
-use Rattle.shift.proofs.Commas.{joins}
+use Rattle.shift.proofs.Places.{joins}
 
 -- the whole of a line that has a key and a value
 line_by : (t k v : List ℕ) (o : Option (List ℕ × List ℕ)) → o ≡ parted (is LineEnd) t → of_line o ≡ Some (k, v) → t ≡ (k ++ 61 ∷ v) ++ 10 ∷ rest_of o
-line_by t k v None e h = absurd (let z : ◌≡◌ {A = ℕ} 0 1 = cc in omega arith)
+line_by t k v None e h = cc
 line_by t k v (Some p) e h =
     let line = joins (is LineEnd) t p.0 p.1 (sym e) in
     let parts = joins (is Equals) p.0 k v h in
@@ -40,9 +40,17 @@ module _ (text : List ℕ) (i : ℕ) (rest k v : List ℕ) (e : rest ≡ drop i 
   pub moved : drop i text ≡ (k ++ 61 ∷ v) ++ 10 ∷ drop (i + (length k + length v + 2)) text
   moved = line_whole (drop i text) k v (h ∙ ap entry e) ∙ ap (λ l. (k ++ 61 ∷ v) ++ 10 ∷ l) (sym left_after)
 
+same : (t : Bool) → false ≡ not t → t ≡ true
+same true h = refl
+same false h = cc
+
 module _ (key : List ℕ) (n : ℕ) (text rest left k v : List ℕ) (e : rest ≡ left) where
-  pub taken : length text ≤ 32768 → Some (k, v) ≡ entry rest → true ≡ bytes_eq k key → Ok (k, v, record { line = n; column = length k + 2 }) ≡ cond (leb (length text) 32768) (with_key key n (entry left)) (Err (at_line Long 1))
+  pub taken : length text ≤ 32768 → Some (k, v) ≡ entry rest → false ≡ not (bytes_eq k key) → Ok (k, v, record { line = n; column = length k + 2 }) ≡ cond (leb (length text) 32768) (with_key key n (entry left)) (Err (at_line Long 1))
   taken short h s =
-      let is : k ≡ key = (bytes_eq-Decides k key).0 (sym s) in
-      let keyed : Ok (k, v, record { line = n; column = length k + 2 }) ≡ with_key key n (Some (k, v)) = rw (sym s, is) in
+      let found : bytes_eq k key ≡ true = same (bytes_eq k key) s in
+      let is : k ≡ key = (bytes_eq-Decides k key).0 found in
+      let keyed : Ok (k, v, record { line = n; column = length k + 2 }) ≡ with_key key n (Some (k, v)) = rw (found, is) in
       keyed ∙ ap (with_key key n) (h ∙ ap entry e) ∙ sym (cond-true _ _ _ (le-leb _ _ short))
+
+-- what a line that is read takes off the text
+pub ruleset reading = (left_after, moved, taken)

@@ -1,6 +1,7 @@
 pub mod Cursor
 pub mod Decimal
-pub mod Commas
 pub mod Gather
+pub mod Words
+pub mod Written
 pub mod Places
-pub mod Sorts
+pub mod Positions

@@ -1,11 +1,11 @@
 -- What each fault of a text reports. Assumes nothing.
-use Rattle.std.specs.Prelude.{ℕ}
+use Rattle.std.specs.Prelude.{ℕ, List, ◌++◌, codes, decimal}
 use Rattle.quorum.specs.declared.refusals.Fault.{Fault}
 use Rattle.quorum.specs.declared.refusals.Layer.TheVariants.{Text}
 use Rattle.quorum.specs.declared.refusals.Refusal.{Refusal}
 use Rattle.quorum.specs.declared.refusals.Refusal.TheVariants as refusal
 use Rattle.quorum.specs.declared.refusals.RuleFault.{RuleFault}
-use Rattle.quorum.specs.Refusals.{of_rule}
+use Rattle.quorum.specs.Refusals.{number, of_rule, word}
 use Rattle.shift.specs.declared.faults.Cause.{Cause}
 use Rattle.shift.specs.declared.faults.Cause.TheVariants.{Long, Key, Value, Rule}
 use Rattle.shift.specs.declared.faults.Spot.{Spot}
@@ -34,3 +34,16 @@ at_line c n = record { cause = c; spot = record { line = n; column = 1 } }
 -- the value at the spot is not of its form
 abbrev pub no_value : Spot → TextFault
 no_value s = record { cause = Value; spot = s }
+
+-- the lines of a fault that was found at the spot, with no line end after the last
+abbrev pub reported_at : Spot → Fault → List ℕ
+reported_at s f =
+    codes "fault=" ++ (decimal (number f.refusal)
+    ++ (codes "\nlayer=" ++ (word f.layer
+    ++ (codes "\nplace=" ++ (decimal f.place
+    ++ (codes "\nline=" ++ (decimal s.line
+    ++ (codes "\ncolumn=" ++ decimal s.column))))))))
+
+-- the number, the layer and the place of what is reported, and the line and the column
+abbrev pub report : TextFault → List ℕ
+report f = reported_at f.spot (of_text f)

@@ -1,11 +1,11 @@
 -- Numbers with commas between them, and the list that holds them. Assumes nothing.
-use Rattle.std.specs.Prelude.{ℕ, cond, List, [], ◌∷◌, ◌++◌, length, take, Some, None, Option, nat_le, nat_lt}
+use Rattle.std.specs.Prelude.{ℕ, cond, List, [], ◌∷◌, ◌++◌, length, take, Some, None, codes, decimal, Option, nat_le, nat_lt}
+use Rattle.std.specs.List.{flat_map, slice_split}
 use Rattle.std.specs.Option.{option_map}
 use Rattle.shift.specs.declared.classes.Class.TheVariants.{Comma}
 use Rattle.shift.specs.declared.list.Numbers.{Numbers}
 use Rattle.shift.specs.Classes.{is}
 use Rattle.shift.specs.Numbers.{number}
-use Rattle.shift.specs.Parts.{pieces}
 
 -- the numbers of a list
 abbrev pub listed : Numbers → List ℕ
@@ -23,7 +23,7 @@ each (p ∷ ps) = followed (number p) (each ps)
 
 -- at most 32 numbers
 abbrev pub numbers : List ℕ → Option (List ℕ)
-numbers bs = cond (nat_le (length (pieces (is Comma) bs)) 32) (each (pieces (is Comma) bs)) None
+numbers bs = cond (nat_le (length (slice_split (is Comma) bs)) 32) (each (slice_split (is Comma) bs)) None
 
 -- the numbers ns with n after them, where there is room
 abbrev pub extended : List ℕ → ℕ → Option (List ℕ)
@@ -33,3 +33,8 @@ extended ns n = cond (nat_lt (length ns) 32) (Some (ns ++ n ∷ [])) None
 abbrev pub added : List ℕ → Option ℕ → Option (List ℕ)
 added ns None = None
 added ns (Some n) = extended ns n
+
+-- the numbers in decimal digits, with commas between; a dash where there is none
+abbrev pub written : List ℕ → List ℕ
+written [] = codes "-"
+written (n ∷ ns) = decimal n ++ flat_map (λ m. codes "," ++ decimal m) ns

@@ -1,8 +1,9 @@
 // What the reading of a text declines with, and where in the text.
-ghost use Rattle.std.specs.Prelude.{◌≡◌};
-ghost use Rattle.shift.specs.Faults.{at_line, at_rule, of_text};
+ghost use Rattle.std.specs.Prelude.{◌≡◌, Some};
+ghost use Rattle.shift.specs.Faults.{at_line, at_rule, of_text, report};
 
-use quorum::refusals::{Declines, Fault, Layer, Refusal, RuleFault};
+use quorum::refusals::{Fault, Layer, Refusal, RuleFault};
+use std::fmt;
 
 // A place in the text: lines and columns count from 1.
 #[derive(Clone, Copy, Debug, PartialEq)]
@@ -39,12 +40,12 @@ impl TextFault {
     }
 }
 
-impl Declines for TextFault {
-    ghost reported = { of_text };
+impl From<TextFault> for Fault {
+    ghost from_gives = { λ found r. r ≡ of_text found };
 
-    fn fault(&self) -> Fault {
-        let refusal = match self.cause {
-            Cause::Rule(below) => return below.fault(),
+    fn from(found: TextFault) -> Fault {
+        let refusal = match found.cause {
+            Cause::Rule(below) => return Fault::from(below),
             Cause::Long => Refusal::Long,
             Cause::Key => Refusal::Key,
             Cause::Value => Refusal::Value,
@@ -54,6 +55,24 @@ impl Declines for TextFault {
             layer: Layer::Text,
             place: 0,
         }
+    }
+}
+
+// What is reported of the fault, and where it was found: five lines, without the last line end.
+impl fmt::Display for TextFault {
+    ghost output = { λ found. Some (report found) };
+
+    fn fmt<W: fmt::Write>(&self, f: &mut fmt::Formatter<W>) -> fmt::Result {
+        let fault = Fault::from(*self);
+        let number = fault.refusal.number();
+        let layer = fault.layer;
+        let place = fault.place;
+        let line = self.spot.line;
+        let column = self.spot.column;
+        write!(
+            f,
+            "fault={number}\nlayer={layer}\nplace={place}\nline={line}\ncolumn={column}"
+        )
     }
 }
 

@@ -3,6 +3,7 @@
 
 pub mod classes;
 pub mod faults;
+pub mod forms;
 pub mod line;
 pub mod list;
 pub mod names;

@@ -1,16 +1,11 @@
 // A line in its parts, and its value by the form that it is to have.
 ghost use Rattle.std.specs.Prelude.{◌≡◌};
 ghost use Rattle.shift.specs.Faults.{no_value};
-ghost use Rattle.shift.specs.Lists.{listed, numbers};
-ghost use Rattle.shift.specs.Names.{procedure, rule};
-ghost use Rattle.shift.specs.Numbers.{number};
 ghost use Rattle.shift.specs.Told.{told};
 ghost use Rattle.std.specs.Option.{ok_or};
 
 use crate::faults::{Cause, Spot, TextFault};
-use crate::list::Numbers;
-use crate::names::{ProcedureName, RuleName};
-use crate::numbers::number;
+use crate::forms::Form;
 
 // The bytes before and after the first equals sign, and the spot of the first byte of the value.
 #[derive(Clone, Copy)]
@@ -31,31 +26,10 @@ impl Line<'_> {
         }
     }
 
-    // The value as a number.
-    pub fn number(&self) -> Result<u32, TextFault>
-        ensures { result ≡ ok_or (number self.now.value.now) (no_value self.now.spot) }
+    // The value, by the form that it is to have.
+    pub fn read<T: Form>(&self) -> Result<T, TextFault>
+        ensures { told T.said result ≡ ok_or (T.form self.now.value.now) (no_value self.now.spot) }
     {
-        number(self.value).ok_or(self.unread())
-    }
-
-    // The value as numbers with commas between.
-    pub fn numbers(&self) -> Result<Numbers, TextFault>
-        ensures { told listed result ≡ ok_or (numbers self.now.value.now) (no_value self.now.spot) }
-    {
-        Numbers::read(self.value).ok_or(self.unread())
-    }
-
-    // The value as the name of a rule.
-    pub fn rule(&self) -> Result<RuleName, TextFault>
-        ensures { result ≡ ok_or (rule self.now.value.now) (no_value self.now.spot) }
-    {
-        RuleName::read(self.value).ok_or(self.unread())
-    }
-
-    // The value as the name of a procedure.
-    pub fn procedure(&self) -> Result<ProcedureName, TextFault>
-        ensures { result ≡ ok_or (procedure self.now.value.now) (no_value self.now.spot) }
-    {
-        ProcedureName::read(self.value).ok_or(self.unread())
+        T::read(self.value).ok_or(self.unread())
     }
 }

@@ -1,8 +1,10 @@
 // The rules and the procedures that a text can ask for, by name.
 ghost use Rattle.std.specs.Prelude.{◌≡◌};
 ghost use Rattle.shift.specs.Names.{procedure, rule};
+ghost use Rattle.shift.specs.declared.names.ProcedureName.{ProcedureName};
+ghost use Rattle.shift.specs.declared.names.RuleName.{RuleName};
 
-use crate::parts::same;
+use crate::forms::Form;
 
 #[derive(Clone, Copy, Debug, PartialEq)]
 pub enum RuleName {
@@ -11,19 +13,23 @@ pub enum RuleName {
     Anchored,
 }
 
-impl RuleName {
+impl Form for RuleName {
+    ghost Said = { RuleName };
+
+    ghost said = { λ name. name };
+
+    ghost form = { rule };
+
     // The rule that the value names.
-    pub fn read(value: &[u8]) -> Option<RuleName>
+    #[tactic(auto, using(crate::proofs::Words::rules))]
+    fn read(value: &[u8]) -> Option<RuleName>
         ensures { result ≡ rule value.now }
     {
-        if same(value, b"majority") {
-            Some(RuleName::Majority)
-        } else if same(value, b"thirds") {
-            Some(RuleName::Thirds)
-        } else if same(value, b"anchored") {
-            Some(RuleName::Anchored)
-        } else {
-            None
+        match value {
+            b"majority" => Some(RuleName::Majority),
+            b"thirds" => Some(RuleName::Thirds),
+            b"anchored" => Some(RuleName::Anchored),
+            _ => None,
         }
     }
 }
@@ -35,19 +41,23 @@ pub enum ProcedureName {
     Latest,
 }
 
-impl ProcedureName {
+impl Form for ProcedureName {
+    ghost Said = { ProcedureName };
+
+    ghost said = { λ name. name };
+
+    ghost form = { procedure };
+
     // The procedure that the value names.
-    pub fn read(value: &[u8]) -> Option<ProcedureName>
+    #[tactic(auto, using(crate::proofs::Words::procedures))]
+    fn read(value: &[u8]) -> Option<ProcedureName>
         ensures { result ≡ procedure value.now }
     {
-        if same(value, b"fast") {
-            Some(ProcedureName::Fast)
-        } else if same(value, b"observing") {
-            Some(ProcedureName::Observing)
-        } else if same(value, b"latest") {
-            Some(ProcedureName::Latest)
-        } else {
-            None
+        match value {
+            b"fast" => Some(ProcedureName::Fast),
+            b"observing" => Some(ProcedureName::Observing),
+            b"latest" => Some(ProcedureName::Latest),
+            _ => None,
         }
     }
 }

@@ -1,9 +1,10 @@
 // Numbers in decimal digits, alone and with commas between.
-ghost use Rattle.std.specs.Prelude.{◌≡◌, if◌then◌else◌, None};
+ghost use Rattle.std.specs.Prelude.{◌≡◌, ℕ, if◌then◌else◌, None};
 ghost use Rattle.shift.specs.Classes.{digit};
 ghost use Rattle.shift.specs.Numbers.{appended, fitting, led, number};
 
 use crate::classes::{Class, classify};
+use crate::forms::Form;
 
 // The number with one more digit after it, where the byte is a digit and the number fits.
 fn append(n: u32, b: u8) -> Option<u32>
@@ -26,7 +27,8 @@ fn is_led(value: &[u8]) -> bool
     }
 }
 
-// The number that the value writes: digits, without a leading 0, below 2^32.
+// The number that the value writes: digits, without a leading 0, below 2^32. A function too, for a caller that names no type.
+#[tactic(auto, using(crate::proofs::Decimal::reading))]
 pub fn number(value: &[u8]) -> Option<u32>
     ensures { result ≡ number value.now }
 {
@@ -38,4 +40,18 @@ pub fn number(value: &[u8]) -> Option<u32>
         n = append(n, *b)?;
     }
     Some(n)
+}
+
+impl Form for u32 {
+    ghost Said = { ℕ };
+
+    ghost said = { λ n. n };
+
+    ghost form = { number };
+
+    fn read(value: &[u8]) -> Option<u32>
+        ensures { result ≡ number value.now }
+    {
+        number(value)
+    }
 }

@@ -2,23 +2,18 @@
 ghost use Rattle.std.specs.Prelude.{◌≡◌, ◌+◌, ◌<◌, ◌≤◌, length, IfSome};
 ghost use Rattle.shift.specs.Classes.{is};
 ghost use Rattle.shift.specs.Entries.{entry};
-ghost use Rattle.shift.specs.Parts.{both, first_from, parted};
+ghost use Rattle.shift.specs.Parts.{both, parted};
+ghost use Rattle.std.specs.List.{position};
 ghost use Rattle.std.specs.Option.{option_map};
-ghost use Rattle.std.specs.Str.{bytes_eq};
 
 use crate::classes::Class;
 
 // The place of the first byte of the class.
 fn first(text: &[u8], class: Class) -> Option<usize>
-    ensures value { result ≡ first_from (is class) 0 text.now }
+    ensures value { result ≡ position (is class) text.now }
     ensures within { IfSome result (λ i. i < length text.now) }
 {
-    for (i, b) in text.iter().enumerate() {
-        if class.has(*b) {
-            return Some(i);
-        }
-    }
-    None
+    text.iter().position(|b| class.has(*b))
 }
 
 // What stands before and after the first byte of the class.
@@ -37,11 +32,4 @@ pub(crate) fn entry(text: &[u8]) -> Option<(&[u8], &[u8])>
 {
     let (line, _) = split(text, Class::LineEnd)?;
     split(line, Class::Equals)
-}
-
-// Whether the two texts have the same bytes.
-pub(crate) fn same(a: &[u8], b: &[u8]) -> bool
-    ensures { result ≡ bytes_eq a.now b.now }
-{
-    a == b
 }

@@ -4,9 +4,10 @@ ghost use Rattle.std.specs.Prelude.{◌+◌, ◌≤◌, length};
 mod methods;
 
 // The most bytes that a text can have.
-const LONGEST: usize = 32768;
+pub const LONGEST: usize = 32768;
 
 // The text, how many of its bytes are read, and the number of the line that comes next, from 1.
+// The whole text and a cursor, and not what is left of it alone: contracts state the place of each part.
 #[derive(Drop)]
 pub struct Reader<'a> {
     text: &'a [u8],

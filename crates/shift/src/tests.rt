@@ -1,11 +1,12 @@
 // Both sides of each limit, as tables.
 use crate::classes::{Class, classify};
 use crate::faults::{Cause, Spot, TextFault};
+use crate::forms::Form;
 use crate::list::Numbers;
 use crate::names::{ProcedureName, RuleName};
 use crate::numbers::number;
 use crate::reader::Reader;
-use quorum::refusals::{Declines, Layer, RuleFault};
+use quorum::refusals::{Fault, Layer, RuleFault};
 use std::test::Fail;
 
 #[test]
@@ -54,12 +55,9 @@ fn numbers(rt: HostRuntime) {
     }
 }
 
-// How many numbers the value writes, 0 where it is not of its form.
-fn count(value: &[u8]) -> usize {
-    match Numbers::read(value) {
-        Some(all) => all.as_slice().len(),
-        None => 0,
-    }
+// How many numbers the value writes, if it is of its form.
+fn count(value: &[u8]) -> Option<usize> {
+    Some(Numbers::read(value)?.as_slice().len())
 }
 
 fn last(value: &[u8]) -> Option<u32> {
@@ -70,8 +68,8 @@ fn last(value: &[u8]) -> Option<u32> {
 fn lists(rt: HostRuntime) {
     let most =
         b"1,2,3,4,5,6,7,8,9,10,11,12,13,14,15,16,17,18,19,20,21,22,23,24,25,26,27,28,29,30,31,4294967295";
-    assert_eq!(rt; count(most), 32);
-    assert_eq!(rt; count(b"6"), 1);
+    assert_eq!(rt; count(most), Some(32));
+    assert_eq!(rt; count(b"6"), Some(1));
     assert_eq!(rt; last(most), Some(4294967295));
     let table: [&[u8]; 7] = [
         b"",
@@ -83,7 +81,7 @@ fn lists(rt: HostRuntime) {
         b"1,2,3,4,5,6,7,8,9,10,11,12,13,14,15,16,17,18,19,20,21,22,23,24,25,26,27,28,29,30,31,32,33",
     ];
     for value in table {
-        assert_eq!(rt; count(value), 0);
+        assert_eq!(rt; count(value), None);
     }
 }
 
@@ -113,7 +111,7 @@ fn names(rt: HostRuntime) {
 
 // What the line `boxes` of the text is worth, and else the fault's cause, line and column.
 fn boxes(text: &[u8]) -> Result<u32, TextFault> {
-    Reader::new(text).due(b"boxes")?.number()
+    Reader::new(text).due(b"boxes")?.read()
 }
 
 fn fault(cause: Cause, line: usize, column: usize) -> Result<u32, TextFault> {
@@ -149,11 +147,14 @@ fn lines_in_turn(rt: HostRuntime) -> Result<(), Fail> {
     assert!(rt; !reader.at_end());
     // a refusal reads nothing
     assert!(rt; reader.due(b"rule").is_err());
-    assert_eq!(rt; reader.due(b"boxes")?.number(), Ok(2));
-    assert_eq!(rt; reader.due(b"rule")?.rule(), Ok(RuleName::Thirds));
+    assert_eq!(rt; reader.due(b"boxes")?.read::<u32>(), Ok(2));
+    assert_eq!(rt;
+        reader.due(b"rule")?.read::<RuleName>(),
+        Ok(RuleName::Thirds)
+    );
     let beat = reader.due(b"beat")?;
     assert_eq!(rt; beat.spot, Spot { line: 3, column: 6 });
-    assert!(rt; beat.numbers().is_err());
+    assert!(rt; beat.read::<Numbers>().is_err());
     assert!(rt; reader.at_end());
     match reader.due(b"beat") {
         Ok(_) => Err(Fail::new("a line past the end")),
@@ -176,12 +177,50 @@ fn reports(rt: HostRuntime) {
     let spot = Spot { line: 1, column: 7 };
     let below = TextFault::from((RuleFault::Roster, spot));
     assert_eq!(rt; below.spot, spot);
-    assert_eq!(rt; below.fault().layer, Layer::Rule);
-    assert_eq!(rt; below.fault().refusal.number(), 1);
+    assert_eq!(rt; Fault::from(below).layer, Layer::Rule);
+    assert_eq!(rt; Fault::from(below).refusal.number(), 1);
     let own = TextFault {
         cause: Cause::Value,
         spot,
     };
-    assert_eq!(rt; own.fault().layer, Layer::Text);
-    assert_eq!(rt; own.fault().refusal.number(), 14);
+    assert_eq!(rt; Fault::from(own).layer, Layer::Text);
+    assert_eq!(rt; Fault::from(own).refusal.number(), 14);
+}
+
+#[test]
+fn printed_faults(rt: HostRuntime) -> Result<(), Fail> {
+    let own = TextFault {
+        cause: Cause::Value,
+        spot: Spot {
+            line: 11,
+            column: 6,
+        },
+    };
+    let printed = own.to_string(rt.alloc())?;
+    assert_eq!(rt;
+        printed.as_str(),
+        "fault=14\nlayer=text\nplace=0\nline=11\ncolumn=6"
+    );
+    let spot = Spot { line: 1, column: 7 };
+    let below = TextFault::from((RuleFault::Roster, spot));
+    let printed = below.to_string(rt.alloc())?;
+    assert_eq!(rt;
+        printed.as_str(),
+        "fault=1\nlayer=rule\nplace=0\nline=1\ncolumn=7"
+    );
+    Ok(())
+}
+
+#[test]
+fn printed_lists(rt: HostRuntime) -> Result<(), Fail> {
+    let none = Numbers::empty();
+    assert_eq!(rt; none.to_string(rt.alloc())?.as_str(), "-");
+    let table: [&str; 3] = ["7", "0,2", "4294967295,10,0"];
+    for text in table {
+        let Some(list) = Numbers::read(text.as_bytes()) else {
+            return Err(Fail::new("a list that is not read"));
+        };
+        assert_eq!(rt; list.to_string(rt.alloc())?.as_str(), text);
+    }
+    Ok(())
 }

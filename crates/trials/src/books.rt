@@ -2,39 +2,32 @@
 use book::books::Book;
 use book::faults::BookFault;
 use quorum::majority::Majority;
-use quorum::refusals::Declines;
+use quorum::refusals::Fault;
 use std::test::Fail;
 
-// The number of the refusal and its place, two zeros where the row is taken.
-fn refusal(entered: Result<(), BookFault>) -> (u8, usize) {
-    match entered {
-        Ok(()) => (0, 0),
-        Err(fault) => {
-            let fault = fault.fault();
-            (fault.refusal.number(), fault.place)
-        }
-    }
+// The number of the refusal and its place, none where the row is taken.
+fn refusal(entered: Result<(), BookFault>) -> Option<(u8, usize)> {
+    let fault = Fault::from(entered.err()?);
+    Some((fault.refusal.number(), fault.place))
 }
 
 // A list for two rows of three boxes, and one vote over.
 #[test]
 fn a_book_of_three(rt: HostRuntime) -> Result<(), Fail> {
-    let Ok(rule) = Majority::new(3) else {
-        return Err(Fail::new("no majority of 3"));
-    };
+    let rule = Majority::new(3)?;
     let mut list = [None; 7];
     let mut book = Book::new(&rule, &mut list);
     assert_eq!(rt; book.rows(), 2);
     let five = Some(5);
     let six = Some(6);
     for (votes, decisions, answer, written) in [
-        ([five, five, None], [None, six, None], (11, 1), 0),
-        ([five, None, None], [five, None, None], (11, 0), 0),
-        ([five, five, None], [None, None, five], (0, 0), 1),
-        ([six, None, None], [None; 3], (10, 0), 1),
-        ([None, six, six], [None; 3], (10, 1), 1),
-        ([None, None, six], [None; 3], (0, 0), 2),
-        ([None; 3], [None; 3], (9, 0), 2),
+        ([five, five, None], [None, six, None], Some((11, 1)), 0),
+        ([five, None, None], [five, None, None], Some((11, 0)), 0),
+        ([five, five, None], [None, None, five], None, 1),
+        ([six, None, None], [None; 3], Some((10, 0)), 1),
+        ([None, six, six], [None; 3], Some((10, 1)), 1),
+        ([None, None, six], [None; 3], None, 2),
+        ([None; 3], [None; 3], Some((9, 0)), 2),
     ] {
         assert_eq!(rt; refusal(book.enter(&rule, &votes, &decisions)), answer);
         assert_eq!(rt; book.written(), written);
@@ -44,12 +37,8 @@ fn a_book_of_three(rt: HostRuntime) -> Result<(), Fail> {
 
 #[test]
 fn calls_that_do_not_fit(rt: HostRuntime) -> Result<(), Fail> {
-    let Ok(rule) = Majority::new(3) else {
-        return Err(Fail::new("no majority of 3"));
-    };
-    let Ok(other) = Majority::new(4) else {
-        return Err(Fail::new("no majority of 4"));
-    };
+    let rule = Majority::new(3)?;
+    let other = Majority::new(4)?;
     let mut list = [None; 2];
     let mut book = Book::new(&rule, &mut list);
     assert_eq!(rt; book.rows(), 0);
@@ -57,9 +46,12 @@ fn calls_that_do_not_fit(rt: HostRuntime) -> Result<(), Fail> {
     let decisions: [Option<u32>; 3] = [None; 3];
     let two: [Option<u32>; 2] = [None; 2];
     let four: [Option<u32>; 4] = [None; 4];
-    assert_eq!(rt; refusal(book.enter(&other, &four, &two)), (2, 0));
-    assert_eq!(rt; refusal(book.enter(&rule, &four, &two)), (5, 1));
-    assert_eq!(rt; refusal(book.enter(&rule, &votes, &two)), (5, 2));
-    assert_eq!(rt; refusal(book.enter(&rule, &votes, &decisions)), (9, 0));
+    assert_eq!(rt; refusal(book.enter(&other, &four, &two)), Some((2, 0)));
+    assert_eq!(rt; refusal(book.enter(&rule, &four, &two)), Some((5, 1)));
+    assert_eq!(rt; refusal(book.enter(&rule, &votes, &two)), Some((5, 2)));
+    assert_eq!(rt;
+        refusal(book.enter(&rule, &votes, &decisions)),
+        Some((9, 0))
+    );
     Ok(())
 }

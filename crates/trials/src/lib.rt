@@ -12,23 +12,11 @@ mod rules;
 #[cfg(test)]
 mod setups;
 
-// Each worked example, computed from the definitions, is what it should be.
-fn compared()
-    ensures { computed ≡ expected }
-{}
-
-// The same of the rows of a book.
-fn rows_compared()
-    ensures { rows_computed ≡ rows_expected }
-{}
-
 // The worked examples agree with the definitions. Answers how many there are.
 pub fn worked_examples() -> usize
     ensures agree { computed ≡ expected }
     ensures count { result ≡ length expected }
     ensures rows { rows_computed ≡ rows_expected }
 {
-    compared();
-    rows_compared();
     6
 }

@@ -1,6 +1,4 @@
 // A caller of a run, as an example of how the promise is come by from what the calls say: what two boxes are read to hold, at different moments, is one setup.
-ghost use Rattle.std.specs.Prelude.{◌≡◌};
-ghost use Rattle.std.specs.Option.{option_zip};
 ghost use Rattle.trials.specs.Readings.{OneSetup};
 
 use agreement::faults::RunFault;
@@ -9,16 +7,6 @@ use agreement::runs::Run;
 use agreement::slips::Slip;
 use quorum::sets::BoxSet;
 use setup::orders::Setup;
-
-// Both setups, where both are there.
-fn both<V: Copy>(a: Option<V>, b: Option<V>) -> Option<(V, V)>
-    ensures { result ≡ option_zip a b }
-{
-    match (a, b) {
-        (Some(v), Some(w)) => Some((v, w)),
-        _ => None,
-    }
-}
 
 // Opens a run, gives it two beats, whatever they hear, taken or not, and reads the machine's box after the first and the office's after the second.
 fn two_readings<V: Setup, P: Procedure<V> + Drop>(
@@ -38,5 +26,5 @@ fn two_readings<V: Setup, P: Procedure<V> + Drop>(
     let steered = run.read(table, machine)?;
     let _ = run.beat(table, sheet, second);
     let filed = run.read(table, office)?;
-    Ok(both(steered.held, filed.held))
+    Ok(steered.held.zip(filed.held))
 }

@@ -2,18 +2,15 @@
 use quorum::anchored::Anchored;
 use quorum::majority::Majority;
 use quorum::present::AllPresent;
-use quorum::refusals::{Declines, Fault, Layer, Refusal, RuleFault};
+use quorum::refusals::{Fault, Layer, Refusal, RuleFault};
 use quorum::rules::{ClearView, Rule};
 use quorum::sets;
 use quorum::sizes::Sizes;
 use std::test::Fail;
 
-// The number of the refusal, 0 where a rule is made.
-fn refusal<R: Drop>(made: Result<R, RuleFault>) -> u8 {
-    match made {
-        Ok(_) => 0,
-        Err(fault) => fault.fault().refusal.number(),
-    }
+// The number of the refusal, none where a rule is made.
+fn refusal<R: Drop>(made: Result<R, RuleFault>) -> Option<u8> {
+    Some(Fault::from(made.err()?).refusal.number())
 }
 
 #[test]
@@ -63,7 +60,7 @@ fn faults_report(rt: HostRuntime) {
         let layer = Layer::Rule;
         let place = 0;
         assert_eq!(rt;
-            fault.fault(),
+            Fault::from(fault),
             Fault {
                 refusal,
                 layer,
@@ -76,7 +73,13 @@ fn faults_report(rt: HostRuntime) {
 
 #[test]
 fn rosters(rt: HostRuntime) {
-    for (boxes, number) in [(0, 1), (1, 0), (32, 0), (33, 1), (usize::MAX, 1)] {
+    for (boxes, number) in [
+        (0, Some(1)),
+        (1, None),
+        (32, None),
+        (33, Some(1)),
+        (usize::MAX, Some(1)),
+    ] {
         assert_eq!(rt; refusal(Majority::new(boxes)), number);
         assert_eq!(rt; refusal(Sizes::thirds(boxes)), number);
         assert_eq!(rt; refusal(Sizes::new(boxes, boxes, boxes)), number);
@@ -86,26 +89,26 @@ fn rosters(rt: HostRuntime) {
 #[test]
 fn sizes_at_their_edges(rt: HostRuntime) {
     for (e, t, number) in [
-        (3, 5, 0),
-        (3, 4, 3),
-        (4, 4, 0),
-        (5, 5, 0),
-        (5, 4, 3),
-        (4, 6, 3),
-        (6, 6, 3),
-        (0, 0, 3),
-        (usize::MAX, usize::MAX, 3),
+        (3, 5, None),
+        (3, 4, Some(3)),
+        (4, 4, None),
+        (5, 5, None),
+        (5, 4, Some(3)),
+        (4, 6, Some(3)),
+        (6, 6, Some(3)),
+        (0, 0, Some(3)),
+        (usize::MAX, usize::MAX, Some(3)),
     ] {
         assert_eq!(rt; refusal(Sizes::new(5, e, t)), number);
     }
     for (n, e, t, number) in [
-        (0, 9, 1, 1),
-        (1, 1, 1, 0),
-        (32, 22, 22, 0),
-        (32, 21, 22, 3),
-        (32, 17, 32, 0),
-        (32, 16, 32, 3),
-        (33, 1, 9, 1),
+        (0, 9, 1, Some(1)),
+        (1, 1, 1, None),
+        (32, 22, 22, None),
+        (32, 21, 22, Some(3)),
+        (32, 17, 32, None),
+        (32, 16, 32, Some(3)),
+        (33, 1, 9, Some(1)),
     ] {
         assert_eq!(rt; refusal(Sizes::new(n, e, t)), number);
     }
@@ -152,7 +155,7 @@ fn quorums_by_count(rt: HostRuntime) -> Result<(), Fail> {
 #[test]
 fn layered_rules(rt: HostRuntime) -> Result<(), Fail> {
     let three = Majority::new(3)?;
-    for (anchor, number) in [(0, 0), (2, 0), (3, 4), (usize::MAX, 4)] {
+    for (anchor, number) in [(0, None), (2, None), (3, Some(4)), (usize::MAX, Some(4))] {
         assert_eq!(rt; refusal(Anchored::new(three, anchor)), number);
     }
     let anchored = Anchored::new(Anchored::new(three, 0)?, 1)?;

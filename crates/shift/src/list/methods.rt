@@ -1,13 +1,14 @@
-// Numbers with commas between them, read into a list.
-ghost use Rattle.std.specs.Prelude.{◌≡◌, ◌<◌, ◌≤◌, [], ◌∷◌, ◌++◌, length};
-ghost use Rattle.shift.specs.Lists.{added, extended, listed, numbers};
+// Numbers with commas between them: read into a list, and printed.
+ghost use Rattle.std.specs.Prelude.{◌≡◌, ℕ, ◌<◌, ◌≤◌, List, [], ◌∷◌, ◌++◌, length, Some};
+ghost use Rattle.shift.specs.Lists.{added, extended, listed, numbers, written};
 ghost use Rattle.shift.specs.Numbers.{number as number_in};
 ghost use Rattle.std.specs.Option.{option_map};
 
 use crate::classes::Class;
+use crate::forms::Form;
 use crate::list::{Numbers, ROOM};
 use crate::numbers::number;
-use crate::parts::split;
+use std::fmt;
 
 impl Numbers {
     // The list without a number.
@@ -61,17 +62,40 @@ impl Numbers {
     {
         self.with(number(piece)?)
     }
+}
+
+impl Form for Numbers {
+    ghost Said = { List ℕ };
+
+    ghost said = { listed };
+
+    ghost form = { numbers };
 
     // The numbers that the value writes, with commas between: 1 to 32.
-    pub fn read(value: &[u8]) -> Option<Numbers>
+    fn read(value: &[u8]) -> Option<Numbers>
         ensures { option_map listed result ≡ numbers value.now }
     {
         let mut list = Numbers::empty();
-        let mut rest = value;
-        while let Some((piece, more)) = split(rest, Class::Comma) {
+        for piece in value.split(|b| Class::Comma.has(*b)) {
             list = list.with_piece(piece)?;
-            rest = more;
         }
-        list.with_piece(rest)
+        Some(list)
+    }
+}
+
+// The numbers with commas between, `-` for none.
+impl fmt::Display for Numbers {
+    ghost output = { λ list. Some (written (listed list)) };
+
+    #[tactic(auto, using(crate::proofs::Written::turns))]
+    fn fmt<W: fmt::Write>(&self, f: &mut fmt::Formatter<W>) -> fmt::Result {
+        let Some((first, more)) = self.as_slice().split_first() else {
+            return f.write_str("-");
+        };
+        write!(f, "{first}")?;
+        for n in more {
+            write!(f, ",{n}")?;
+        }
+        Ok(())
     }
 }

@@ -6,7 +6,7 @@ ghost use Rattle.shift.specs.Told.{told};
 
 use crate::faults::{Cause, Spot, TextFault};
 use crate::line::Line;
-use crate::parts::{entry, same};
+use crate::parts::entry;
 use crate::reader::{LONGEST, Reader};
 
 impl<'a> Reader<'a> {
@@ -39,6 +39,7 @@ impl<'a> Reader<'a> {
 
     // The next line, where it is the one due: it has the key, an equals sign and an end. Else nothing is read.
     // A text that is too long is declined before any of its lines is looked at.
+    #[tactic(auto, using(crate::proofs::Cursor::reading))]
     pub fn due(&mut self, key: &[u8]) -> Result<Line<'a>, TextFault>
         ensures value { told bytes_of result ≡ unless_long self.old.text.now (due key.now self.old.line (left self.old)) }
         ensures parts { IfOk result (λ l. left self.old ≡ (l.key.now ++ 61 ∷ l.value.now) ++ 10 ∷ left self.new) }
@@ -54,7 +55,7 @@ impl<'a> Reader<'a> {
         let Some((found, value)) = entry(self.rest()) else {
             return Err(other);
         };
-        if !same(found, key) {
+        if found != key {
             return Err(other);
         }
         let spot = Spot {

@@ -1,19 +1,9 @@
 use Rattle.std.proofs.Common.{Ok, Option, sym, ◌∙◌, subst}
-use Rattle.std.proofs.lemmas.Result.{err_from_is_err_and}
 use Rattle.agreement.specs.declared.faults.RunFault.{RunFault}
 use Rattle.agreement.specs.Calls.{Beats, Reads}
 use Rattle.trials.specs.Readings.{OneSetup}
 use Rattle.trials.proofs.Agreeing.{agree}
 use Rattle.trials.proofs.readings.two_readings.Goals as goal
-
-pub returns-in_err-run : goal.returns-in_err-run
-returns-in_err-run g c = let e = err_from_is_err_and c.from_residual.result c.from_residual.ensures.1 in rw e.1 tt
-
-pub returns-in_err-steered : goal.returns-in_err-steered
-returns-in_err-steered g c = let e = err_from_is_err_and c.from_residual-in_err-steered.result c.from_residual-in_err-steered.ensures.1 in rw e.1 tt
-
-pub returns-in_err-filed : goal.returns-in_err-filed
-returns-in_err-filed g c = let e = err_from_is_err_and c.from_residual-in_err-filed.result c.from_residual-in_err-filed.ensures.1 in rw e.1 tt
 
 pub returns : goal.returns
 returns g c =
@@ -37,6 +27,6 @@ returns g c =
     let read_one = subst (λ q. Reads (meaning q) u c.args.machine (Ok x)) same_1 c.in_ok-steered.ensures in
     let second = subst (λ q. Beats (meaning q) run_1.clock u s c.args.second.now c.beat-2.result run_2.clock v r) same_1 c.beat-2.ensures.beats in
     let read_two = subst (λ q. Reads (meaning q) v c.args.office (Ok y)) same_2 c.in_ok-filed.ensures in
-    subst (λ (o : Option (g.row.V.Denot × g.row.V.Denot)). OneSetup {F = RunFault} (Ok o)) (sym c.both.ensures)
+    subst (λ (o : Option (g.row.V.Denot × g.row.V.Denot)). OneSetup {F = RunFault} (Ok o)) (sym c.zip.ensures)
     (agree p opened.promise c.args.proposals.now c.args.table.now run.clock run_1.clock run_2.clock t u v c.args.sheet.now s r c.args.first.now c.args.second.now
     c.beat.result c.beat-2.result c.args.machine c.args.office x y opened.opens first read_one second read_two)

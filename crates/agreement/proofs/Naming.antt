@@ -1,0 +1,39 @@
+-- The box that a declined beat names. Assumes nothing.
+use Rattle.std.proofs.Common.{ℕ, not, List, length, Some, Option, Result, ◌==◌, subst}
+use Rattle.quorum.specs.Boxes.{lowest, IsLowest}
+use Rattle.quorum.specs.Refusals.{Does}
+use Rattle.quorum.proofs.Lowest.{lowest_is_lowest}
+use Rattle.quorum.proofs.Refused.{Each, each_either, each_err, each_mapped, each_unless}
+use Rattle.agreement.specs.declared.clocks.Clock.{Clock}
+use Rattle.agreement.specs.declared.faults.RunFault.{RunFault}
+use Rattle.agreement.specs.declared.faults.RunFault.TheVariants as fault
+use Rattle.agreement.specs.declared.slips.Slip.{Slip}
+use Rattle.agreement.specs.Calls.{closed, estranged, no_beat, Beats, FirstStranger}
+use Rattle.agreement.specs.Protocols.{Protocol}
+
+-- the fault names the lowest stranger, if it is for one
+abbrev Named : ℕ → List ℕ → RunFault → Type 0
+Named n heard fault.NoBox = Unit {0}
+Named n heard (fault.Length rank) = Unit {0}
+Named n heard fault.Closed = Unit {0}
+Named n heard (fault.Stranger i) = IsLowest (estranged n heard) n (Some i)
+Named n heard (fault.Wait i) = Unit {0}
+
+-- so does every reason to decline a beat
+named : {V : Type 0} (p : Protocol V) (c : Clock) (table sheet : ℕ) (heard : List ℕ) (waiting : Option ℕ) → Each (Named p.rule.boxes heard) (no_beat p c table sheet heard waiting)
+named p c table sheet heard waiting =
+    let n = p.rule.boxes in
+    let P = Named n heard in
+    each_either P _ _
+    (each_either P _ _ (each_unless P (table == n) (fault.Length 1) tt)
+    (each_either P _ _ (each_unless P (sheet == n) (fault.Length 2) tt) (each_unless P (length heard == n) (fault.Length 3) tt)))
+    (each_either P _ _ (each_unless P (not (closed c)) fault.Closed tt)
+    (each_either P _ _
+    (each_mapped P fault.Stranger (lowest (estranged n heard) n) (λ i e. subst (IsLowest (estranged n heard) n) e (lowest_is_lowest (estranged n heard) n)))
+    (each_mapped P fault.Wait waiting (λ i e. tt))))
+
+pub first_stranger : {V : Type 0} (p : Protocol V) (c : Clock) (table sheet : List (Slip V)) (heard : List ℕ) (answer : Result (Unit {0}) RunFault) (next : Clock) (after copy : List (Slip V))
+    → Beats p c table sheet heard answer next after copy → FirstStranger p.rule.boxes heard answer
+first_stranger p c table sheet heard answer next after copy h i e =
+    let reason = no_beat p c (length table) (length sheet) heard h.0 in
+    each_err (Named p.rule.boxes heard) reason _ _ (fault.Stranger i) (named p c (length table) (length sheet) heard h.0) (subst (Does reason _ _) e h.2)

@@ -1,0 +1,38 @@
+-- The box that a declined row names. Assumes nothing.
+use Rattle.std.proofs.Common.{◌≡◌, ℕ, Bool, List, length, Some, Err, Option, Result, ◌==◌, nat_lt, subst}
+use Rattle.quorum.specs.Boxes.{lowest, IsLowest}
+use Rattle.quorum.specs.Refusals.{Answers}
+use Rattle.quorum.specs.Rules.{Family}
+use Rattle.quorum.proofs.Lowest.{lowest_is_lowest}
+use Rattle.quorum.proofs.Refused.{Each, each_answered, each_either, each_mapped, each_unless}
+use Rattle.book.specs.declared.faults.BookFault.{BookFault}
+use Rattle.book.specs.declared.faults.BookFault.TheVariants as fault
+use Rattle.book.specs.Entering.{declined, NamesFirst}
+use Rattle.book.specs.Pages.{Pages, defects, rows, unbacked}
+
+module _ {V : Type 0} (f : Family) (before : V → V → Bool) (b : Pages V) (votes decisions : List (Option V)) where
+  -- the fault names the lowest box that breaks a guard, if it is for one
+  abbrev Named : BookFault → Type 0
+  Named fault.OtherRoster = Unit {0}
+  Named (fault.Length rank) = Unit {0}
+  Named fault.NoRow = Unit {0}
+  Named (fault.Defection i) = IsLowest (defects f before b votes) b.boxes (Some i)
+  Named (fault.Unbacked i) = IsLowest (unbacked f before votes decisions) b.boxes (Some i)
+
+  lowest_at : (test : ℕ → Bool) (i : ℕ) → lowest test b.boxes ≡ Some i → IsLowest test b.boxes (Some i)
+  lowest_at test i e = subst (IsLowest test b.boxes) e (lowest_is_lowest test b.boxes)
+
+  -- so does every reason to decline a row
+  named : Each Named (declined f before b votes decisions)
+  named =
+      each_either Named _ _ (each_unless Named (f.boxes == b.boxes) fault.OtherRoster tt)
+      (each_either Named _ _ (each_unless Named (length votes == b.boxes) (fault.Length 1) tt)
+      (each_either Named _ _ (each_unless Named (length decisions == b.boxes) (fault.Length 2) tt)
+      (each_either Named _ _ (each_unless Named (nat_lt b.written (rows b)) fault.NoRow tt)
+      (each_either Named _ _ (each_mapped Named fault.Defection (lowest (defects f before b votes) b.boxes) (λ i e. lowest_at (defects f before b votes) i e))
+      (each_mapped Named fault.Unbacked (lowest (unbacked f before votes decisions) b.boxes) (λ i e. lowest_at (unbacked f before votes decisions) i e))))))
+
+  pub names_first : (answer : Result (Unit {0}) BookFault) → Answers (declined f before b votes decisions) (λ (_ : Unit {0}). Unit {0}) answer → NamesFirst f before b votes decisions answer
+  names_first answer h =
+      let said : (g : BookFault) → answer ≡ Err g → Named g = λ g e. each_answered Named (declined f before b votes decisions) _ g named (subst (Answers (declined f before b votes decisions) _) e h) in
+      record { defector = λ i e. said (fault.Defection i) e; unbacked_box = λ i e. said (fault.Unbacked i) e }

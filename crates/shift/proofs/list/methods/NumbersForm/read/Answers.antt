@@ -1,0 +1,28 @@
+use Rattle.std.proofs.Common.{ap, ◌∙◌, rules}
+use Rattle.std.proofs.lemmas.Iterator.Splits.{YieldsList-from_slice_split}
+use Rattle.std.specs.Option.{option_map}
+use Rattle.shift.specs.declared.classes.Class.TheVariants.{Comma}
+use Rattle.shift.specs.Classes.{is}
+use Rattle.shift.specs.Lists.{listed, numbers}
+use Rattle.shift.proofs.Gather.{at_most_32, goes_on, ends, closes}
+use Rattle.shift.proofs.list.methods.NumbersForm.read.Goals as goal
+
+pub loop-piece-preserved : goal.loop-piece-preserved
+loop-piece-preserved c =
+    let pieces = YieldsList-from_slice_split _ (is Comma) c.args.value.now c.loop-piece.invariant.whole (cc) (cc) (λ x b q k. search rules) in
+    record {
+      whole = c.loop-piece.invariant.whole;
+      so_far = goes_on _ _ (numbers c.args.value.now) pieces _ _ _ c.loop-piece.yielded_by c.loop-piece.invariant.so_far _ c.in-Some.piece c.in-Some.is c.next.ensures.steps (listed c.in_ok-list.list) c.in_ok-list.ensures;
+    }
+
+pub returns-in_err-list : goal.returns-in_err-list
+returns-in_err-list c =
+    let pieces = YieldsList-from_slice_split _ (is Comma) c.args.value.now c.loop-piece.invariant.whole (cc) (cc) (λ x b q k. search rules) in
+    ap (option_map listed) c.from_residual.ensures
+    ∙ ends _ _ (numbers c.args.value.now) pieces _ _ _ c.loop-piece.yielded_by c.loop-piece.invariant.so_far _ c.in-Some.piece c.in-Some.is c.next.ensures.steps c.in_err-list.ensures
+
+pub returns : goal.returns
+returns c =
+    let pieces = YieldsList-from_slice_split _ (is Comma) c.args.value.now c.loop-piece.invariant.whole (cc) (cc) (λ x b q k. search rules) in
+    let list = c.loop-piece.list in
+    closes _ _ (numbers c.args.value.now) pieces _ _ _ c.loop-piece.yielded_by c.loop-piece.invariant.so_far _ c.in-None.is c.next.ensures.steps (at_most_32 list.items list.count list.len list.room)
