@@ -4,7 +4,6 @@ pub mod Closing
 pub mod Deciding
 pub mod Entries
 pub mod Holding
-pub mod Judging
 pub mod Moments
 pub mod Naming
 pub mod Opening

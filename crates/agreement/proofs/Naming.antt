@@ -1,14 +1,15 @@
--- The box that a declined beat names. Assumes nothing.
-use Rattle.std.proofs.Common.{ℕ, not, List, length, Some, Option, Result, ◌==◌, subst}
+-- The box that a declined beat names, and that there is none where it is taken. Assumes nothing.
+use Rattle.std.proofs.Common.{◌≡◌, ℕ, not, List, length, Some, None, Option, Result, ◌==◌, subst}
+use Rattle.std.specs.Option.{option_map}
 use Rattle.quorum.specs.Boxes.{lowest, IsLowest}
-use Rattle.quorum.specs.Refusals.{Does}
-use Rattle.quorum.proofs.Lowest.{lowest_is_lowest}
-use Rattle.quorum.proofs.Refused.{Each, each_either, each_err, each_mapped, each_unless}
+use Rattle.quorum.specs.Refusals.{Does, unless}
+use Rattle.quorum.proofs.Lowest.{lowest_is_lowest, none_passes}
+use Rattle.quorum.proofs.Refused.{Each, does_ok, each_either, each_err, each_mapped, each_unless, either_none, mapped_none}
 use Rattle.agreement.specs.declared.clocks.Clock.{Clock}
 use Rattle.agreement.specs.declared.faults.RunFault.{RunFault}
 use Rattle.agreement.specs.declared.faults.RunFault.TheVariants as fault
 use Rattle.agreement.specs.declared.slips.Slip.{Slip}
-use Rattle.agreement.specs.Calls.{closed, estranged, no_beat, Beats, FirstStranger}
+use Rattle.agreement.specs.Calls.{closed, estranged, no_beat, other_lengths, Beats, FirstStranger}
 use Rattle.agreement.specs.Protocols.{Protocol}
 
 -- the fault names the lowest stranger, if it is for one
@@ -32,8 +33,20 @@ named p c table sheet heard waiting =
     (each_mapped P fault.Stranger (lowest (estranged n heard) n) (λ i e. subst (IsLowest (estranged n heard) n) e (lowest_is_lowest (estranged n heard) n)))
     (each_mapped P fault.Wait waiting (λ i e. tt))))
 
+-- where there is no reason to decline a beat, no heard set has a stranger
+no_stranger : {V : Type 0} (p : Protocol V) (c : Clock) (table sheet : ℕ) (heard : List ℕ) (waiting : Option ℕ) → no_beat p c table sheet heard waiting ≡ None
+    → IsLowest (estranged p.rule.boxes heard) p.rule.boxes None
+no_stranger p c table sheet heard waiting e =
+    let n = p.rule.boxes in
+    let a = either_none (other_lengths n table sheet (length heard)) _ e in
+    let b = either_none (unless (not (closed c)) fault.Closed) _ a.1 in
+    let d = either_none (option_map fault.Stranger (lowest (estranged n heard) n)) _ b.1 in
+    none_passes (estranged n heard) n (mapped_none fault.Stranger (lowest (estranged n heard) n) d.0)
+
 pub first_stranger : {V : Type 0} (p : Protocol V) (c : Clock) (table sheet : List (Slip V)) (heard : List ℕ) (answer : Result (Unit {0}) RunFault) (next : Clock) (after copy : List (Slip V))
     → Beats p c table sheet heard answer next after copy → FirstStranger p.rule.boxes heard answer
-first_stranger p c table sheet heard answer next after copy h i e =
-    let reason = no_beat p c (length table) (length sheet) heard h.0 in
-    each_err (Named p.rule.boxes heard) reason _ _ (fault.Stranger i) (named p c (length table) (length sheet) heard h.0) (subst (Does reason _ _) e h.2)
+first_stranger p c table sheet heard answer next after copy h =
+    let reason = no_beat p c (length table) (length sheet) heard h.0 in record {
+      declined = λ i e. each_err (Named p.rule.boxes heard) reason _ _ (fault.Stranger i) (named p c (length table) (length sheet) heard h.0) (subst (Does reason _ _) e h.2);
+      taken = λ e. no_stranger p c (length table) (length sheet) heard h.0 (does_ok reason _ _ tt (subst (Does reason _ _) e h.2)).0;
+    }

@@ -82,9 +82,10 @@ Beats p c table sheet heard answer c' table' sheet' =
     (λ _. (c' ≡ advanced p.beats c) × (table' ≡ beaten p c.phase c.beat heard table) × (sheet' ≡ table))
     ((c' ≡ c) × (table' ≡ table) × (sheet' ≡ sheet)) answer
 
--- A beat that is declined for a stranger names the lowest box whose heard set has one.
-abbrev pub FirstStranger : ℕ → List ℕ → Result (Unit {0}) RunFault → Type 0
-FirstStranger n heard answer = (i : ℕ) → answer ≡ Err (fault.Stranger i) → IsLowest (estranged n heard) n (Some i)
+-- A beat that is declined for a stranger names the lowest box whose heard set has one; if a beat is taken, no heard set has any.
+pub record FirstStranger (n : ℕ) (heard : List ℕ) (answer : Result (Unit {0}) RunFault) : Type 0 where
+  pub declined : (i : ℕ) → answer ≡ Err (fault.Stranger i) → IsLowest (estranged n heard) n (Some i)
+  pub taken : answer ≡ Ok tt → IsLowest (estranged n heard) n None
 
 -- ---- read
 

@@ -1,5 +1,5 @@
 -- When a book declines a row, and what entering one leaves. Assumes nothing.
-use Rattle.std.specs.Prelude.{◌≡◌, ℕ, ◌<◌, Bool, List, length, Some, Ok, Err, Option, Result, ◌==◌, nat_lt}
+use Rattle.std.specs.Prelude.{◌≡◌, ℕ, ◌<◌, Bool, List, length, Some, None, Ok, Err, Option, Result, ◌==◌, nat_lt}
 use Rattle.std.specs.Option.{option_map}
 use Rattle.quorum.specs.Boxes.{lowest, IsLowest}
 use Rattle.quorum.specs.Refusals.{Does, either, unless}
@@ -24,10 +24,11 @@ abbrev pub Enters : {V : Type 0} → Family → (V → V → Bool) → Pages V �
 Enters f before b votes decisions answer after =
     Does (declined f before b votes decisions) (λ _. after ≡ extended b votes) (after ≡ b) answer
 
--- A row that a guard declines names the lowest box that breaks the guard.
+-- A row that a guard declines names the lowest box that breaks the guard; if a row is taken, no box breaks either.
 pub record NamesFirst {V : Type 0} (f : Family) (before : V → V → Bool) (b : Pages V) (votes decisions : List (Option V)) (answer : Result (Unit {0}) BookFault) : Type 0 where
   pub defector : (i : ℕ) → answer ≡ Err (fault.Defection i) → IsLowest (defects f before b votes) b.boxes (Some i)
   pub unbacked_box : (i : ℕ) → answer ≡ Err (fault.Unbacked i) → IsLowest (unbacked f before votes decisions) b.boxes (Some i)
+  pub neither : answer ≡ Ok tt → IsLowest (defects f before b votes) b.boxes None × IsLowest (unbacked f before votes decisions) b.boxes None
 
 -- Room for a row, a rule of the book's roster, and lists of the right length.
 pub record Ready {V : Type 0} (f : Family) (b : Pages V) (votes decisions : List (Option V)) : Type 0 where
