@@ -1,5 +1,6 @@
 -- What stands at a box of a table. Assumes nothing.
 use Rattle.std.proofs.Common.{◌≡◌, ℕ, zero, suc, ◌+◌, ◌<◌, List, [], ◌∷◌, map, length, get_or, Some, None, Option, sym, refl, ap, ◌∙◌, subst, add-zero, arith}
+use Rattle.std.specs.Option.{option_and_then}
 use Rattle.std.proofs.lemmas.List.{get_or-map}
 use Rattle.quorum.proofs.Somes.{some_is, some_none}
 use Rattle.setup.specs.Rows.{entry}
@@ -26,6 +27,21 @@ pub item_at : {A : Type 0} (xs : List A) (i : ℕ) (x : A) → item xs i ≡ Som
 item_at [] i x e = absurd (some_none (sym e))
 item_at (y ∷ xs) zero x e = record { inside = omega arith; is = some_is e }
 item_at (y ∷ xs) (suc i) x e = let r = item_at xs i x e in record { inside = omega (arith, r.inside); is = r.is }
+
+-- where the list is long enough there is one
+pub item_there : {A : Type 0} (xs : List A) (i : ℕ) → i < length xs → (x : A) × (item xs i ≡ Some x)
+item_there [] i lt = absurd (omega arith)
+item_there (x ∷ xs) zero lt = (x, refl)
+item_there (x ∷ xs) (suc i) lt = item_there xs i (omega arith)
+
+-- what f reads depends on the item only
+field_of : {A B : Type 0} (f : A → Option B) (xs : List A) (i : ℕ) → entry (map f xs) i ≡ option_and_then f (item xs i)
+field_of f [] i = refl
+field_of f (x ∷ xs) zero = refl
+field_of f (x ∷ xs) (suc i) = field_of f xs i
+
+pub field_alike : {A B : Type 0} (f : A → Option B) (xs ys : List A) (i : ℕ) → item xs i ≡ item ys i → entry (map f xs) i ≡ entry (map f ys) i
+field_alike f xs ys i e = field_of f xs i ∙ ap (option_and_then f) e ∙ sym (field_of f ys i)
 
 -- what f reads of the item
 pub field_at : {A B : Type 0} (f : A → Option B) (xs : List A) (i : ℕ) (x : A) → item xs i ≡ Some x → entry (map f xs) i ≡ f x

@@ -1,14 +1,11 @@
 pub mod Beating
 pub mod Bookkeeping
-pub mod Closing
 pub mod Deciding
 pub mod Entries
 pub mod Holding
 pub mod Moments
 pub mod Naming
-pub mod Opening
 pub mod Overwriting
 pub mod Promising
-pub mod Reading
 pub mod Taking
 pub mod Working

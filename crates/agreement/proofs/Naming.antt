@@ -9,7 +9,7 @@ use Rattle.agreement.specs.declared.clocks.Clock.{Clock}
 use Rattle.agreement.specs.declared.faults.RunFault.{RunFault}
 use Rattle.agreement.specs.declared.faults.RunFault.TheVariants as fault
 use Rattle.agreement.specs.declared.slips.Slip.{Slip}
-use Rattle.agreement.specs.Calls.{closed, estranged, no_beat, other_lengths, Beats, FirstStranger}
+use Rattle.agreement.specs.Calls.{closed, estranged, no_beat, other_lengths, BeatsNaming, FirstStranger}
 use Rattle.agreement.specs.Protocols.{Protocol}
 
 -- the fault names the lowest stranger, if it is for one
@@ -43,10 +43,10 @@ no_stranger p c table sheet heard waiting e =
     let d = either_none (option_map fault.Stranger (lowest (estranged n heard) n)) _ b.1 in
     none_passes (estranged n heard) n (mapped_none fault.Stranger (lowest (estranged n heard) n) d.0)
 
-pub first_stranger : {V : Type 0} (p : Protocol V) (c : Clock) (table sheet : List (Slip V)) (heard : List ℕ) (answer : Result (Unit {0}) RunFault) (next : Clock) (after copy : List (Slip V))
-    → Beats p c table sheet heard answer next after copy → FirstStranger p.rule.boxes heard answer
-first_stranger p c table sheet heard answer next after copy h =
-    let reason = no_beat p c (length table) (length sheet) heard h.0 in record {
-      declined = λ i e. each_err (Named p.rule.boxes heard) reason _ _ (fault.Stranger i) (named p c (length table) (length sheet) heard h.0) (subst (Does reason _ _) e h.2);
-      taken = λ e. no_stranger p c (length table) (length sheet) heard h.0 (does_ok reason _ _ tt (subst (Does reason _ _) e h.2)).0;
+pub first_stranger : {V : Type 0} (p : Protocol V) (c : Clock) (table sheet : List (Slip V)) (heard : List ℕ) (waiting : Option ℕ) (answer : Result (Unit {0}) RunFault)
+    (next : Clock) (after copy : List (Slip V)) → BeatsNaming waiting p c table sheet heard answer next after copy → FirstStranger p.rule.boxes heard answer
+first_stranger p c table sheet heard waiting answer next after copy h =
+    let reason = no_beat p c (length table) (length sheet) heard waiting in record {
+      declined = λ i e. each_err (Named p.rule.boxes heard) reason _ _ (fault.Stranger i) (named p c (length table) (length sheet) heard waiting) (subst (Does reason _ _) e h);
+      taken = λ e. no_stranger p c (length table) (length sheet) heard waiting (does_ok reason _ _ tt (subst (Does reason _ _) e h)).0;
     }

@@ -15,7 +15,7 @@ use Rattle.agreement.specs.Slips.{opened, slip_at}
 
 -- the list of this rank in the call is not n long
 abbrev pub other_length : ℕ → ℕ → ℕ → Option RunFault
-other_length n rank length = unless (length == n) (fault.Length rank)
+other_length n rank items = unless (items == n) (fault.Length rank)
 
 -- ---- the clock
 
@@ -43,7 +43,7 @@ Opens p proposals table answer table' =
     Does (no_opening p.rule.boxes (length proposals) (length table)) (λ c. (c ≡ beginning) × (table' ≡ opened proposals)) (table' ≡ table) answer
 
 -- the clock of the run that an opening answers
-abbrev pub clocked : {P : Type 0} → Result (Run P) RunFault → Result Clock RunFault
+abbrev pub clocked : {V P : Type 0} → Result (Run V P) RunFault → Result Clock RunFault
 clocked (Ok run) = Ok run.clock
 clocked (Err f) = Err f
 
@@ -74,13 +74,18 @@ no_beat p c table sheet heard waiting =
     (either (option_map fault.Stranger (lowest (estranged p.rule.boxes heard) p.rule.boxes))
     (option_map fault.Wait waiting)))
 
--- A beat that is not declined moves the clock on, the table has the new slips, and the sheet the former ones. A declined one leaves all as found.
-abbrev pub Beats : {V : Type 0} → Protocol V → Clock → List (Slip V) → List (Slip V) → List ℕ → Result (Unit {0}) RunFault → Clock → List (Slip V) → List (Slip V) → Type 0
-Beats p c table sheet heard answer c' table' sheet' =
-    (waiting : Option ℕ) × Waiting p c.phase c.beat heard waiting
-    × Does (no_beat p c (length table) (length sheet) heard waiting)
+-- A beat that is not declined moves the clock on, the table has the new slips, and the sheet the former ones. A declined one leaves all as found; it names `waiting`
+-- where a box must wait.
+abbrev pub BeatsNaming : {V : Type 0} → Option ℕ → Protocol V → Clock → List (Slip V) → List (Slip V) → List ℕ → Result (Unit {0}) RunFault → Clock → List (Slip V) → List (Slip V) → Type 0
+BeatsNaming waiting p c table sheet heard answer c' table' sheet' =
+    Does (no_beat p c (length table) (length sheet) heard waiting)
     (λ _. (c' ≡ advanced p.beats c) × (table' ≡ beaten p c.phase c.beat heard table) × (sheet' ≡ table))
     ((c' ≡ c) × (table' ≡ table) × (sheet' ≡ sheet)) answer
+
+-- a beat, whichever of the boxes that must wait it names
+abbrev pub Beats : {V : Type 0} → Protocol V → Clock → List (Slip V) → List (Slip V) → List ℕ → Result (Unit {0}) RunFault → Clock → List (Slip V) → List (Slip V) → Type 0
+Beats p c table sheet heard answer c' table' sheet' =
+    (waiting : Option ℕ) × Waiting p c.phase c.beat heard waiting × BeatsNaming waiting p c table sheet heard answer c' table' sheet'
 
 -- A beat that is declined for a stranger names the lowest box whose heard set has one; if a beat is taken, no heard set has any.
 pub record FirstStranger (n : ℕ) (heard : List ℕ) (answer : Result (Unit {0}) RunFault) : Type 0 where

@@ -53,7 +53,7 @@ pub record Agreement {V : Type 0} (calls : ℕ) (at : ℕ → Moment V) : Type 0
 abbrev pub Validity : {V : Type 0} → List V → ℕ → (ℕ → Moment V) → Type 0
 Validity {V} proposals calls at = (t i : ℕ) (v : V) → t ≤ calls → Holds (at t) i v → Stands v (map Some proposals)
 
--- phase k is finished, and no beat after it is taken
+-- phase k has just ended: it is finished, and no beat after it is taken
 abbrev pub Ends : {V : Type 0} → Moment V → ℕ → Type 0
 Ends m k = (m.clock.phase ≡ suc k) × (m.clock.beat ≡ 0)
 
@@ -61,8 +61,8 @@ Ends m k = (m.clock.phase ≡ suc k) × (m.clock.beat ≡ 0)
 abbrev pub SameRule : Family → Family → Type 0
 SameRule f g = (f.boxes ≡ g.boxes) × ((s : ℕ) → f.quorum s ≡ g.quorum s)
 
--- A book of the run: fresh on any list, and then the first phases are entered in order, so many, each at a moment when it is finished, under a rule with
--- the procedure's roster and quorums, the casts as votes and the news as decisions.
+-- A book of the run: fresh on any list, and then the first phases are entered in order, so many, each under a rule with the procedure's roster and quorums,
+-- with the casts as votes and the news as decisions that the table has at a moment when the phase has just ended.
 pub record Kept {V : Type 0} (before : V → V → Bool) (p : Protocol V) (calls : ℕ) (at : ℕ → Moment V) (phases : ℕ) (book : ℕ → Pages V) (answer : ℕ → Result (Unit {0}) BookFault) : Type 0 where
   pub list : List (Option V)
   pub opens : book 0 ≡ fresh p.rule.boxes list

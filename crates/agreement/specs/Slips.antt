@@ -1,12 +1,16 @@
 -- Slips, and tables of them, one for each box. Assumes nothing.
 use Rattle.std.specs.Prelude.{◌≡◌, ℕ, List, [], ◌∷◌, map, Some, None, Option}
-use Rattle.std.specs.Option.{option_map}
+use Rattle.std.specs.Option.{option_map, option_or}
 use Rattle.setup.specs.Rows.{entry}
 use Rattle.agreement.specs.declared.slips.Slip.{Slip}
 
 -- the slip of a box that proposes v
 abbrev pub opening : {V : Type 0} → V → Slip V
 opening v = record { own = v; pick = None; say = None; cast = None; news = None; held = None; dated = None }
+
+-- the slip with this cast and this news: held becomes news where news is there, and every other field keeps
+abbrev pub turned : {V : Type 0} → Option V → Option V → Slip V → Slip V
+turned cast news s = record { own = s.own; pick = s.pick; say = s.say; cast = cast; news = news; held = option_or news s.held; dated = s.dated }
 
 -- the table at the opening
 abbrev pub opened : {V : Type 0} → List V → List (Slip V)

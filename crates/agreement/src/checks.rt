@@ -1,5 +1,5 @@
 // The checks of a run's calls on the lengths of their lists and the box that they name.
-ghost use Rattle.std.specs.Prelude.{◌≡◌, ◌<◌, nat_lt};
+ghost use Rattle.std.specs.Prelude.{◌≡◌, ◌<◌, nat_lt, OnOk};
 ghost use Rattle.quorum.specs.Refusals.{Answers, unless};
 ghost use Rattle.agreement.specs.Calls.{no_opening, no_slip, other_length, other_lengths};
 ghost use Rattle.agreement.specs.declared.faults.RunFault.TheVariants.{NoBox};
@@ -8,7 +8,8 @@ use crate::faults::RunFault;
 
 // The list of this rank in the call must have an item for each box.
 fn has_length(boxes: usize, rank: usize, length: usize) -> Result<(), RunFault>
-    ensures value { Answers (other_length boxes rank length) (λ _. length ≡ boxes) result }
+    ensures value { Answers (other_length boxes rank length) (λ _. Unit {0}) result }
+    ensures fitting { OnOk result (length ≡ boxes) }
 {
     if length == boxes {
         Ok(())
@@ -19,7 +20,8 @@ fn has_length(boxes: usize, rank: usize, length: usize) -> Result<(), RunFault>
 
 // The lists of an opening must each have an item for each box.
 pub(crate) fn may_open(boxes: usize, proposals: usize, table: usize) -> Result<(), RunFault>
-    ensures { Answers (no_opening boxes proposals table) (λ _. (proposals ≡ boxes) × (table ≡ boxes)) result }
+    ensures value { Answers (no_opening boxes proposals table) (λ _. Unit {0}) result }
+    ensures fitting { OnOk result ((proposals ≡ boxes) × (table ≡ boxes)) }
 {
     has_length(boxes, 1, proposals)?;
     has_length(boxes, 2, table)
@@ -27,7 +29,8 @@ pub(crate) fn may_open(boxes: usize, proposals: usize, table: usize) -> Result<(
 
 // The roster must have the box.
 fn has_box(boxes: usize, i: usize) -> Result<(), RunFault>
-    ensures { Answers (unless (nat_lt i boxes) NoBox) (λ _. i < boxes) result }
+    ensures value { Answers (unless (nat_lt i boxes) NoBox) (λ _. Unit {0}) result }
+    ensures fitting { OnOk result (i < boxes) }
 {
     if i < boxes {
         Ok(())
@@ -38,7 +41,8 @@ fn has_box(boxes: usize, i: usize) -> Result<(), RunFault>
 
 // A read must name a box of the roster, on a table that has a slip for each.
 pub(crate) fn may_read(boxes: usize, table: usize, i: usize) -> Result<(), RunFault>
-    ensures { Answers (no_slip boxes table i) (λ _. (i < boxes) × (table ≡ boxes)) result }
+    ensures value { Answers (no_slip boxes table i) (λ _. Unit {0}) result }
+    ensures fitting { OnOk result ((i < boxes) × (table ≡ boxes)) }
 {
     has_box(boxes, i)?;
     has_length(boxes, 1, table)
@@ -51,7 +55,8 @@ pub(crate) fn have_lengths(
     sheet: usize,
     heard: usize,
 ) -> Result<(), RunFault>
-    ensures { Answers (other_lengths boxes table sheet heard) (λ _. (table ≡ boxes) × (sheet ≡ boxes) × (heard ≡ boxes)) result }
+    ensures value { Answers (other_lengths boxes table sheet heard) (λ _. Unit {0}) result }
+    ensures fitting { OnOk result ((table ≡ boxes) × (sheet ≡ boxes) × (heard ≡ boxes)) }
 {
     has_length(boxes, 1, table)?;
     has_length(boxes, 2, sheet)?;

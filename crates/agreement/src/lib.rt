@@ -1,6 +1,7 @@
 // The agreement: slips, procedures that rewrite them, runs of a procedure, and the promise that every run keeps.
 #![tactic(auto)]
 
+mod beats;
 mod checks;
 pub mod clocks;
 pub mod faults;

@@ -3,24 +3,26 @@ ghost use Rattle.std.specs.Prelude.{◌≡◌, IfOk};
 ghost use Rattle.agreement.specs.Calls.{Beats, FirstStranger, Opens, Reads, clocked};
 ghost use Rattle.agreement.specs.Promise.{Promise};
 
-use crate::checks::{have_lengths, may_open, may_read};
+use crate::beats::close;
+use crate::checks::{may_open, may_read};
 use crate::clocks::Clock;
 use crate::faults::RunFault;
-use crate::hearing::Given;
 use crate::procedures::Procedure;
 use crate::slips::Slip;
 use crate::tables::fill;
 use quorum::sets::BoxSet;
 use setup::orders::Setup;
+use std::marker::PhantomData;
 
+// A procedure at work on one kind of setup, and the phase and beat that are due. `setups` only names the kind.
 #[derive(Drop)]
-pub struct Run<P> {
+pub struct Run<V, P> {
     procedure: P,
     clock: Clock,
+    setups: PhantomData<V>,
 }
 
 // Fills the table for an opening, or declines it.
-#[tactic(auto, using(crate::proofs::Opening::opening_declined, crate::proofs::Opening::opening_done))]
 fn begin<V: Setup, P: Procedure<V>>(
     procedure: &P,
     proposals: &[V],
@@ -33,47 +35,21 @@ fn begin<V: Setup, P: Procedure<V>>(
     Ok(Clock::beginning())
 }
 
-// Takes the beat that is due and moves the clock on, or declines it.
-// Table and sheet stay two lists, as the caller has them: a struct would be made at each call to be taken apart here.
-fn close<V: Setup, P: Procedure<V>>(
-    procedure: &P,
-    clock: &mut Clock,
-    table: &mut [Slip<V>],
-    sheet: &mut [Slip<V>],
-    heard: &[BoxSet],
-) -> Result<(), RunFault>
-    ensures { Beats (P.Procedure.meaning procedure.now) clock.old table.old sheet.old heard.now result clock.new table.new sheet.new }
-{
-    let boxes = procedure.boxes();
-    have_lengths(boxes, table.len(), sheet.len(), heard.len())?;
-    let given = Given {
-        procedure,
-        boxes,
-        phase: clock.open_phase()?,
-        beat: clock.beat,
-        heard,
-    };
-    given.may_go_on()?;
-    given.turn_over(table, sheet);
-    *clock = clock.advanced(procedure.beats());
-    Ok(())
-}
-
-impl<P> Run<P> {
+impl<V: Setup, P: Procedure<V>> Run<V, P> {
     // Opens a run on a proposal for each box, and fills the table with their first slips. However it is then worked, it keeps the promise.
-    pub fn open<V: Setup>(
-        procedure: P,
-        proposals: &[V],
-        table: &mut [Slip<V>],
-    ) -> Result<Run<P>, RunFault>
+    pub fn open(procedure: P, proposals: &[V], table: &mut [Slip<V>]) -> Result<Run<V, P>, RunFault>
     where
-        P: Procedure<V> + Drop,
+        P: Drop,
         ensures opens { Opens (P.Procedure.meaning procedure) proposals.now table.old (clocked result) table.new }
         ensures runs { IfOk result (λ run. run.procedure ≡ procedure) }
         ensures promise { Promise V.Setup.before (P.Procedure.meaning procedure) }
     {
         let clock = begin(&procedure, proposals, table)?;
-        Ok(Run { procedure, clock })
+        Ok(Run {
+            procedure,
+            clock,
+            setups: PhantomData,
+        })
     }
 
     // The phase and beat that are due.
@@ -91,14 +67,12 @@ impl<P> Run<P> {
     }
 
     // Takes the beat that is due: the table is rewritten, and the sheet receives the former slips.
-    pub fn beat<V: Setup>(
+    pub fn beat(
         &mut self,
         table: &mut [Slip<V>],
         sheet: &mut [Slip<V>],
         heard: &[BoxSet],
     ) -> Result<(), RunFault>
-    where
-        P: Procedure<V>,
         ensures beats { Beats (P.Procedure.meaning self.old.procedure) self.old.clock table.old sheet.old heard.now result self.new.clock table.new sheet.new }
         ensures first { FirstStranger (P.Procedure.meaning self.old.procedure).rule.boxes heard.now result }
         ensures runs { self.new.procedure ≡ self.old.procedure }
@@ -107,10 +81,7 @@ impl<P> Run<P> {
     }
 
     // The slip of a box.
-    #[tactic(auto, using(crate::proofs::Reading::inside, crate::proofs::Reading::read_declined, crate::proofs::Reading::read_done))]
-    pub fn read<V: Setup>(&self, table: &[Slip<V>], i: usize) -> Result<Slip<V>, RunFault>
-    where
-        P: Procedure<V>,
+    pub fn read(&self, table: &[Slip<V>], i: usize) -> Result<Slip<V>, RunFault>
         ensures { Reads (P.Procedure.meaning self.now.procedure) table.now i result }
     {
         may_read(self.procedure.boxes(), table.len(), i)?;

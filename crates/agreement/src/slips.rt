@@ -1,6 +1,6 @@
 // The slip: what one box knows and sends.
 ghost use Rattle.std.specs.Prelude.{◌≡◌};
-ghost use Rattle.agreement.specs.Slips.{opening};
+ghost use Rattle.agreement.specs.Slips.{opening, turned};
 
 use setup::dated::DatedVote;
 
@@ -35,6 +35,18 @@ impl<V: Copy> Slip<V> {
             news: None,
             held: None,
             dated: None,
+        }
+    }
+
+    // The slip with this cast and this news: held becomes news where news is there, and every other field keeps.
+    pub fn turned(self, cast: Option<V>, news: Option<V>) -> Slip<V>
+        ensures { result ≡ turned cast news self }
+    {
+        Slip {
+            cast,
+            news,
+            held: news.or(self.held),
+            ..self
         }
     }
 }

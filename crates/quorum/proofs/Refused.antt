@@ -40,41 +40,10 @@ does_none {F} reason done kept answer e h = go answer (subst (λ (o : Option F).
     go (Ok u) d = (refl, d)
     go (Err f) d = absurd d
 
--- ---- checks, one after another
-
 -- what is known of the value of a call that was not declined
 pub value_of : {X F : Type 0} (reason : Option F) (P : X → Type 0) (x : X) → Answers reason P (Ok x) → P x
 value_of None P x h = h
 value_of (Some g) P x h = absurd h
-
-module _ {X Y F : Type 0} where
-  -- a check that fails is the answer, whatever would come after it
-  pub stops : (first rest : Option F) (P : X → Type 0) (Q : Y → Type 0) (f : F) → Answers first P (Err f) → Answers (either first rest) Q (Err f)
-  stops None rest P Q f h = absurd h
-  stops (Some g) rest P Q f h = h
-
-  -- after a check that passes, what comes after it is the answer
-  pub passes : (first rest : Option F) (P : X → Type 0) (Q : Y → Type 0) (x : X) (r : Result Y F) → Answers first P (Ok x) → Answers rest Q r → Answers (either first rest) Q r
-  passes None rest P Q x r h k = k
-  passes (Some g) rest P Q x r h k = absurd h
-
-  -- a check that passes gives any value of which what is asked holds
-  pub passed : (first : Option F) (P : X → Type 0) (Q : Y → Type 0) (x : X) (y : Y) → Answers first P (Ok x) → Q y → Answers first Q (Ok y)
-  passed None P Q x y h k = k
-  passed (Some g) P Q x y h k = absurd h
-
-  pub stopped : (first : Option F) (P : X → Type 0) (Q : Y → Type 0) (f : F) → Answers first P (Err f) → Answers first Q (Err f)
-  stopped None P Q f h = absurd h
-  stopped (Some g) P Q f h = h
-
-  -- what a declined check leaves, and what one that passes does
-  pub declines : (first : Option F) (P : X → Type 0) (done : Y → Type 0) (kept : Type 0) (f : F) → Answers first P (Err f) → kept → Does first done kept (Err f)
-  declines None P done kept f h k = absurd h
-  declines (Some g) P done kept f h k = (h, k)
-
-  pub does : (first : Option F) (P : X → Type 0) (done : Y → Type 0) (kept : Type 0) (x : X) (y : Y) → Answers first P (Ok x) → done y → Does first done kept (Ok y)
-  does None P done kept x y h d = d
-  does (Some g) P done kept x y h d = absurd h
 
 -- ---- what holds of the fault of each check holds of the answer
 

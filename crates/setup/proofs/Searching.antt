@@ -127,3 +127,28 @@ module _ {V : Type 0} {before : V → V → Bool} (o : Ordered before) where
 
   pub first_is_first : (row : List (Option V)) (s : ℕ) → IsFirst before row s (first before (among row s 0))
   first_is_first row s = among_first row s (first before (among row s 0)) (least (among row s 0))
+
+  -- what comes before a setup is another one
+  apart : (a b : V) → before a b ≡ true → a ≡ b → ⊥
+  apart a b h e = both_ways (before b b) (o.irreflexive b) (subst (λ (x : V). before x b ≡ true) e h)
+
+  -- of two firsts among the same setups neither comes before the other
+  not_before : (row other : List (Option V)) (s : ℕ) (v w : V) → ((i : ℕ) → has s i ≡ true → entry row i ≡ entry other i) → IsFirst before row s (Some v) → IsFirst before other s (Some w)
+      → before v w ≡ false
+  not_before row other s v w same h g = go (cases_Bool (before v w))
+    where
+      go : ((before v w ≡ true) ⊎ (before v w ≡ false)) → before v w ≡ false
+      go (inr e) = e
+      go (inl e) =
+          let back = g.1 h.0.0 v h.0.1 (sym (same h.0.0 h.0.1) ∙ h.0.2) (apart v w e) in absurd (both_ways (before w v) (one_way v w e) back)
+
+  one_first : (row other : List (Option V)) (s : ℕ) (x y : Option V) → ((i : ℕ) → has s i ≡ true → entry row i ≡ entry other i) → IsFirst before row s x → IsFirst before other s y → x ≡ y
+  one_first row other s None None same h g = refl
+  one_first row other s None (Some w) same h g = absurd (some_none (sym (sym (h g.0.0 g.0.1) ∙ same g.0.0 g.0.1 ∙ g.0.2)))
+  one_first row other s (Some v) None same h g = absurd (some_none (sym (sym (g h.0.0 h.0.1) ∙ sym (same h.0.0 h.0.1) ∙ h.0.2)))
+  one_first row other s (Some v) (Some w) same h g =
+      ap {B = Option V} Some (o.total v w (not_before row other s v w same h g) (not_before other row s w v (λ i e. sym (same i e)) g h))
+
+  -- the first among the boxes of a set depends on no other box
+  pub first_alike : (row other : List (Option V)) (s : ℕ) → ((i : ℕ) → has s i ≡ true → entry row i ≡ entry other i) → first before (among row s 0) ≡ first before (among other s 0)
+  first_alike row other s same = one_first row other s _ _ same (first_is_first row s) (first_is_first other s)
