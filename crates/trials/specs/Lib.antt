@@ -1,2 +1,4 @@
 pub mod Readings
+pub mod Unison
+pub mod UnisonLaws
 pub mod Worked

@@ -1,15 +1,8 @@
 // The book: rows that it takes, and rows that it declines.
+use crate::refused::refusal;
 use book::books::Book;
-use book::faults::BookFault;
 use quorum::majority::Majority;
-use quorum::refusals::Fault;
 use std::test::Fail;
-
-// The number of the refusal and its place, none where the row is taken.
-fn refusal(entered: Result<(), BookFault>) -> Option<(u8, usize)> {
-    let fault = Fault::from(entered.err()?);
-    Some((fault.refusal.number(), fault.place))
-}
 
 // A list for two rows of three boxes, and one vote over.
 #[test]

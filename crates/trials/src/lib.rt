@@ -1,4 +1,4 @@
-// Worked examples of the definitions, and tests of the calls.
+// Worked examples of the definitions, a caller of a run, a small procedure, and tests of the calls.
 #![tactic(auto)]
 
 ghost use Rattle.std.specs.Prelude.{◌≡◌, length};
@@ -8,9 +8,14 @@ ghost use Rattle.trials.specs.Worked.{computed, expected, rows_computed, rows_ex
 mod books;
 mod readings;
 #[cfg(test)]
+mod refused;
+#[cfg(test)]
 mod rules;
 #[cfg(test)]
+mod runs;
+#[cfg(test)]
 mod setups;
+mod unison;
 
 // The worked examples agree with the definitions. Answers how many there are.
 pub fn worked_examples() -> usize

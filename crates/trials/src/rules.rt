@@ -1,4 +1,5 @@
 // Sets of boxes, refusals, and the rules.
+use crate::refused;
 use quorum::anchored::Anchored;
 use quorum::majority::Majority;
 use quorum::present::AllPresent;
@@ -10,7 +11,7 @@ use std::test::Fail;
 
 // The number of the refusal, none where a rule is made.
 fn refusal<R: Drop>(made: Result<R, RuleFault>) -> Option<u8> {
-    Some(Fault::from(made.err()?).refusal.number())
+    Some(refused::refusal(made)?.0)
 }
 
 #[test]
