@@ -5,10 +5,11 @@ use Rattle.std.proofs.lemmas.Bool.{and_cases, and_left, and_right, both_ways, ca
 use Rattle.quorum.specs.Rules.{Family, Lawful}
 use Rattle.quorum.specs.Members.{has_below}
 use Rattle.setup.specs.Orders.{Ordered}
-use Rattle.setup.specs.Rows.{entry}
-use Rattle.book.specs.Pages.{lacks, same, turns, unbacked, voters}
+use Rattle.setup.specs.Rows.{boxes_with, entry, same}
+use Rattle.setup.proofs.Sameness.{equal_same, same_equal}
+use Rattle.book.specs.Pages.{lacks, turns, unbacked}
 use Rattle.book.specs.Voting.{Backed, Loyal}
-use Rattle.book.proofs.Sameness.{equal_same, same_equal, votes_among, voters_quorum, voters_unanimous}
+use Rattle.book.proofs.Sameness.{votes_among, voters_quorum, voters_unanimous}
 
 -- a box that has an entry is below the row's length
 entry_below : {V : Type 0} (row : List (Option V)) (i n : ℕ) (w : V) → length row ≡ n → entry row i ≡ Some w → i < n
@@ -24,32 +25,32 @@ module _ {V : Type 0} {before : V → V → Bool} (o : Ordered before) (f : Fami
   loyal_turns earlier votes loyal i = go (entry earlier i) (entry votes i) refl refl
     where
       pick : (v w : V) → entry earlier i ≡ Some v → entry votes i ≡ Some w → (same before v w ≡ true) ⊎ (same before v w ≡ false)
-          → (f.quorum (voters before v earlier) ≡ true) ⊎ (f.quorum (voters before v earlier) ≡ false)
-          → (not (same before v w) && f.quorum (voters before v earlier)) ≡ false
-      pick v w ex ey (inl s) d = and_left (not (same before v w)) (f.quorum (voters before v earlier)) (not_from_true (same before v w) s)
-      pick v w ex ey (inr s) (inr d) = and_right (not (same before v w)) (f.quorum (voters before v earlier)) d
+          → (f.quorum (boxes_with before v earlier) ≡ true) ⊎ (f.quorum (boxes_with before v earlier) ≡ false)
+          → (not (same before v w) && f.quorum (boxes_with before v earlier)) ≡ false
+      pick v w ex ey (inl s) d = and_left (not (same before v w)) (f.quorum (boxes_with before v earlier)) (not_from_true (same before v w) s)
+      pick v w ex ey (inr s) (inr d) = and_right (not (same before v w)) (f.quorum (boxes_with before v earlier)) d
       pick v w ex ey (inr s) (inl d) =
-          absurd (both_ways (same before v w) s (equal_same o v w (sym (loyal (voters before v earlier) i v w d (voters_unanimous o v earlier) (votes_among o v earlier i ex) ey))))
+          absurd (both_ways (same before v w) s (equal_same o v w (sym (loyal (boxes_with before v earlier) i v w d (voters_unanimous o v earlier) (votes_among o v earlier i ex) ey))))
 
       go : (x y : Option V) → entry earlier i ≡ x → entry votes i ≡ y → turns f before earlier x y ≡ false
       go None y ex ey = refl
       go (Some v) None ex ey = refl
-      go (Some v) (Some w) ex ey = pick v w ex ey (cases_Bool (same before v w)) (cases_Bool (f.quorum (voters before v earlier)))
+      go (Some v) (Some w) ex ey = pick v w ex ey (cases_Bool (same before v w)) (cases_Bool (f.quorum (boxes_with before v earlier)))
 
   -- and where no box turns, the row is loyal
   pub turns_loyal : (earlier votes : List (Option V)) → length earlier ≡ f.boxes → ((i : ℕ) → i < f.boxes → turns f before earlier (entry earlier i) (entry votes i) ≡ false)
       → Loyal f earlier votes
   turns_loyal earlier votes len none q i v w h all inside e =
-      pick (and_cases (not (same before v w)) (f.quorum (voters before v earlier)) stays)
+      pick (and_cases (not (same before v w)) (f.quorum (boxes_with before v earlier)) stays)
     where
       stays : turns f before earlier (Some v) (Some w) ≡ false
       stays =
           let lt = has_below f.boxes q i (ltb-true q (2 ^ f.boxes) (law.inside q h)) inside in
           sym (ap (λ (x : Option V). turns f before earlier x (entry votes i)) (all i inside) ∙ ap (turns f before earlier (Some v)) e) ∙ none i lt
 
-      pick : (not (same before v w) ≡ false) ⊎ (f.quorum (voters before v earlier) ≡ false) → w ≡ v
+      pick : (not (same before v w) ≡ false) ⊎ (f.quorum (boxes_with before v earlier) ≡ false) → w ≡ v
       pick (inl s) = sym (same_equal o v w (not-false (same before v w) s))
-      pick (inr d) = absurd (both_ways (f.quorum (voters before v earlier)) d (voters_quorum o f law v earlier q len h all))
+      pick (inr d) = absurd (both_ways (f.quorum (boxes_with before v earlier)) d (voters_quorum o f law v earlier q len h all))
 
   -- where every decision is backed, no box is unbacked
   pub backed_lacks : (votes decisions : List (Option V)) → length votes ≡ f.boxes → Backed f votes decisions → (i : ℕ) → unbacked f before votes decisions i ≡ false
@@ -59,7 +60,7 @@ module _ {V : Type 0} {before : V → V → Bool} (o : Ordered before) (f : Fami
       go None e = refl
       go (Some w) e =
           let b = backed i w e in
-          not_from_true (f.quorum (voters before w votes)) (voters_quorum o f law w votes b.0 len b.1 b.2)
+          not_from_true (f.quorum (boxes_with before w votes)) (voters_quorum o f law w votes b.0 len b.1 b.2)
 
   -- and where no box is unbacked, every decision is backed
   pub lacks_backed : (votes decisions : List (Option V)) → length decisions ≡ f.boxes → ((i : ℕ) → i < f.boxes → unbacked f before votes decisions i ≡ false)
@@ -67,4 +68,4 @@ module _ {V : Type 0} {before : V → V → Bool} (o : Ordered before) (f : Fami
   lacks_backed votes decisions len none i w e =
       let lt = entry_below decisions i f.boxes w len e in
       let stays : lacks f before votes (Some w) ≡ false = sym (ap (lacks f before votes) e) ∙ none i lt in
-      (voters before w votes, not-false (f.quorum (voters before w votes)) stays, voters_unanimous o w votes)
+      (boxes_with before w votes, not-false (f.quorum (boxes_with before w votes)) stays, voters_unanimous o w votes)

@@ -5,5 +5,4 @@ pub mod Places
 pub mod Rounds
 pub mod Sameness
 pub mod Searches
-pub mod Voters
 pub mod Voting

@@ -1,42 +1,35 @@
--- Two setups are the same exactly if they are equal, so the voters of a setup are the boxes that have it. Assumes nothing.
-use Rattle.std.proofs.Common.{◌≡◌, ℕ, Bool, true, not, List, length, Some, None, Option, sym, ap, ◌∙◌, subst}
-use Rattle.std.proofs.lemmas.Bool.{and_from, and_parts, false≢true, not_from_false, not-true}
+-- The boxes that have a setup in a row, which are those that vote for it. Assumes nothing.
+use Rattle.std.proofs.Common.{◌≡◌, ℕ, ◌≤◌, Bool, true, List, map, length, min, Some, Option, sym, ap, ◌∙◌, arith}
+use Rattle.std.proofs.lemmas.List.{map-id}
 use Rattle.quorum.specs.Rules.{Family, Lawful}
-use Rattle.quorum.specs.Sets.{has}
+use Rattle.quorum.specs.Sets.{everyone, has}
 use Rattle.quorum.proofs.Growth.{quorum_grows}
 use Rattle.setup.specs.Orders.{Ordered}
-use Rattle.setup.specs.Rows.{entry}
-use Rattle.book.specs.Pages.{is, same, voters}
+use Rattle.setup.specs.Rows.{among, boxes_with, entry}
+use Rattle.setup.proofs.Gathering.{among_all, with_has, with_within}
+use Rattle.setup.proofs.Sameness.{is_some, some_is}
 use Rattle.book.specs.Voting.{Unanimous}
-use Rattle.book.proofs.Voters.{voters_has, voters_within}
+
+-- in a row of 32 boxes at most, the boxes that have a setup, sought among all of the row's
+pub all_sought : {V : Type 0} (before : V → V → Bool) (v : V) (row : List (Option V)) (s r : ℕ) → length row ≤ 32 → s ≡ everyone (min (length row) 32)
+    → r ≡ boxes_with before v (among (map (λ x. x) row) s 0) → r ≡ boxes_with before v row
+all_sought {V} before v row s r few all found =
+    let whole : min (length row) 32 ≡ length row = omega arith in
+    found ∙ ap (λ (l : List (Option V)). boxes_with before v (among l s 0)) (map-id row)
+    ∙ ap (boxes_with before v) (ap (λ (t : ℕ). among row t 0) (all ∙ ap everyone whole) ∙ among_all row (length row) (omega arith))
 
 module _ {V : Type 0} {before : V → V → Bool} (o : Ordered before) where
-  pub same_equal : (v w : V) → same before v w ≡ true → v ≡ w
-  same_equal v w h =
-      let neither = and_parts (not (before v w)) (not (before w v)) h in
-      o.total v w (not-true (before v w) neither.0) (not-true (before w v) neither.1)
-
-  pub equal_same : (v w : V) → v ≡ w → same before v w ≡ true
-  equal_same v w e = subst (λ (u : V). same before v u ≡ true) e (and_from _ _ (not_from_false (before v v) (o.irreflexive v)) (not_from_false (before v v) (o.irreflexive v)))
-
-  is_some : (v : V) (x : Option V) → is before v x ≡ true → x ≡ Some v
-  is_some v None h = absurd (false≢true h)
-  is_some v (Some w) h = ap {B = Option V} Some (sym (same_equal v w h))
-
-  some_is : (v : V) (x : Option V) → x ≡ Some v → is before v x ≡ true
-  some_is v x e = subst (λ (y : Option V). is before v y ≡ true) (sym e) (equal_same v v (λ _. v))
-
   -- the voters are unanimous
-  pub voters_unanimous : (v : V) (row : List (Option V)) → Unanimous (voters before v row) v row
-  voters_unanimous v row i h = is_some v (entry row i) (sym (voters_has before v row i) ∙ h)
+  pub voters_unanimous : (v : V) (row : List (Option V)) → Unanimous (boxes_with before v row) v row
+  voters_unanimous v row i h = is_some o v (entry row i) (sym (with_has before v row i) ∙ h)
 
   -- a box that has the setup is among them
-  pub votes_among : (v : V) (row : List (Option V)) (i : ℕ) → entry row i ≡ Some v → has (voters before v row) i ≡ true
-  votes_among v row i e = voters_has before v row i ∙ some_is v (entry row i) e
+  pub votes_among : (v : V) (row : List (Option V)) (i : ℕ) → entry row i ≡ Some v → has (boxes_with before v row) i ≡ true
+  votes_among v row i e = with_has before v row i ∙ some_is o v (entry row i) e
 
   -- a quorum that is unanimous makes the voters one
   pub voters_quorum : (f : Family) → Lawful f → (v : V) (row : List (Option V)) (q : ℕ) → length row ≡ f.boxes → f.quorum q ≡ true → Unanimous q v row
-      → f.quorum (voters before v row) ≡ true
+      → f.quorum (boxes_with before v row) ≡ true
   voters_quorum f law v row q len h all =
-      quorum_grows f law q (voters before v row) h (λ i e. votes_among v row i (all i e))
-      (voters_within before v row f.boxes len)
+      quorum_grows f law q (boxes_with before v row) h (λ i e. votes_among v row i (all i e))
+      (with_within before v row f.boxes len)

@@ -1,7 +1,7 @@
 -- What a book keeps, and what its guards test. Assumes nothing.
-use Rattle.std.specs.Prelude.{ℕ, zero, suc, ◌+◌, ◌*◌, ◌/◌, Bool, false, cond, not, ◌&&◌, ◌||◌, List, [], ◌∷◌, ◌++◌, length, take, drop, Some, None, Option}
+use Rattle.std.specs.Prelude.{ℕ, zero, suc, ◌+◌, ◌*◌, ◌/◌, Bool, false, not, ◌&&◌, ◌||◌, List, ◌++◌, length, take, drop, Some, None, Option}
 use Rattle.quorum.specs.Rules.{Family}
-use Rattle.setup.specs.Rows.{entry}
+use Rattle.setup.specs.Rows.{boxes_with, entry, same}
 
 -- a roster's number of boxes, the list that the rows are kept in, one after another, and how many rows are written
 pub record Pages (V : Type 0) : Type 0 where
@@ -33,25 +33,11 @@ extended b votes = record {
   written = b.written + 1;
 }
 
--- two setups are the same: neither comes before the other
-abbrev pub same : {V : Type 0} → (V → V → Bool) → V → V → Bool
-same before v w = not (before v w) && not (before w v)
-
--- the entry is this setup
-abbrev pub is : {V : Type 0} → (V → V → Bool) → V → Option V → Bool
-is before v None = false
-is before v (Some w) = same before v w
-
--- the set of the boxes that have v in the row
-abbrev pub voters : {V : Type 0} → (V → V → Bool) → V → List (Option V) → ℕ
-voters before v [] = 0
-voters before v (x ∷ row) = cond (is before v x) 1 0 + 2 * voters before v row
-
 -- a box that had voted x, and now votes y, turns from a quorum: x's voters in the earlier row are one, and y is another setup
 abbrev pub turns : {V : Type 0} → Family → (V → V → Bool) → List (Option V) → Option V → Option V → Bool
 turns f before earlier None y = false
 turns f before earlier (Some v) None = false
-turns f before earlier (Some v) (Some w) = not (same before v w) && f.quorum (voters before v earlier)
+turns f before earlier (Some v) (Some w) = not (same before v w) && f.quorum (boxes_with before v earlier)
 
 -- some row below m passes the test
 abbrev pub some_row : (ℕ → Bool) → ℕ → Bool
@@ -69,7 +55,7 @@ defects f before b votes i = some_row (turns_at f before b votes i) b.written
 -- box i breaks the second guard: the voters of its decision are no quorum
 abbrev pub lacks : {V : Type 0} → Family → (V → V → Bool) → List (Option V) → Option V → Bool
 lacks f before votes None = false
-lacks f before votes (Some w) = not (f.quorum (voters before w votes))
+lacks f before votes (Some w) = not (f.quorum (boxes_with before w votes))
 
 abbrev pub unbacked : {V : Type 0} → Family → (V → V → Bool) → List (Option V) → List (Option V) → ℕ → Bool
 unbacked f before votes decisions i = lacks f before votes (entry decisions i)

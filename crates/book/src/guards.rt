@@ -2,9 +2,10 @@
 ghost use Rattle.std.specs.Prelude.{◌≡◌, ◌<◌};
 ghost use Rattle.quorum.specs.Boxes.{lowest};
 
-use crate::rows::{Row, same};
+use crate::rows::Row;
 use crate::written::Written;
 use quorum::rules::Rule;
+use setup::having::same;
 use setup::orders::Setup;
 
 // The votes of a row that is to be entered, the rows that are written, and the rule that the row is entered under.

@@ -1,11 +1,12 @@
 // A row: what each box has, a setup or none, and the boxes that have a setup.
-ghost use Rattle.std.specs.Prelude.{◌≡◌, ◌+◌, ◌*◌, ◌%◌, ◌^◌, ◌≤◌, length, if◌then◌else◌};
-ghost use Rattle.setup.specs.Rows.{entry as entry_of};
-ghost use Rattle.book.specs.Pages.{is as is_of, same as same_of, voters as voters_of};
+ghost use Rattle.std.specs.Prelude.{◌≡◌, ◌≤◌, length};
+ghost use Rattle.setup.specs.Rows.{boxes_with as boxes_that_have, entry as entry_of};
 
 use quorum::rules::Rule;
-use quorum::sets::BoxSet;
+use quorum::sets::{BoxSet, all_below};
+use setup::having::boxes_with;
 use setup::orders::Setup;
+use setup::search::Optional;
 
 // The entries of as many boxes at most as a set has.
 #[derive(Drop)]
@@ -30,40 +31,17 @@ impl<'a, V: Setup> Row<'a, V> {
     }
 
     // The set of the boxes that have `v`.
-    pub(crate) fn voters(&self, v: V) -> BoxSet
-        ensures { result ≡ voters_of V.Setup.before v self.now.entries.now }
+    #[tactic(auto, using(crate::proofs::Sameness::all_sought))]
+    fn voters(&self, v: V) -> BoxSet
+        ensures { result ≡ boxes_that_have V.Setup.before v self.now.entries.now }
     {
-        self.entries
-            .iter()
-            .rev()
-            .fold(0, |set, x| below(set, is(v, *x)))
+        boxes_with(&Optional, self.entries, all_below(self.entries.len()), v)
     }
 
     // Whether the voters of `v` are a quorum.
     pub(crate) fn elects<R: Rule>(&self, rule: &R, v: V) -> bool
-        ensures { result ≡ (R.Rule.family rule.now).quorum (voters_of V.Setup.before v self.now.entries.now) }
+        ensures { result ≡ (R.Rule.family rule.now).quorum (boxes_that_have V.Setup.before v self.now.entries.now) }
     {
         rule.is_quorum(self.voters(v))
     }
-}
-
-// Whether two setups are the same: neither comes before the other. No `PartialEq`, since it is not asked of a kind of setup.
-pub(crate) fn same<V: Setup>(v: V, w: V) -> bool
-    ensures { result ≡ same_of V.Setup.before v w }
-{
-    !v.comes_before(&w) && !w.comes_before(&v)
-}
-
-// Whether an entry is the setup `v`.
-fn is<V: Setup>(v: V, entry: Option<V>) -> bool
-    ensures { result ≡ is_of V.Setup.before v entry }
-{
-    entry.is_some_and(|w| same(v, w))
-}
-
-// The set one box higher, with box 0 in it or not: what was box 31 is left out.
-fn below(set: BoxSet, there: bool) -> BoxSet
-    ensures { result ≡ (if there then 1 else 0) + 2 * set % 2 ^ 32 }
-{
-    (set << 1) + BoxSet::from(there)
 }

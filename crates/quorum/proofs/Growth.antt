@@ -1,5 +1,5 @@
 -- A quorum grows: a superset of it within the roster is a quorum. Assumes nothing.
-use Rattle.std.proofs.Common.{◌≡◌, ℕ, zero, suc, ◌+◌, ◌/◌, ◌^◌, ◌<◌, ◌≤◌, true, false, ◌||◌, ◌⊎◌, sym, refl, ap, ◌∙◌, subst, inl, inr, pow-suc, arith, lit<}
+use Rattle.std.proofs.Common.{◌≡◌, ℕ, zero, suc, ◌+◌, ◌/◌, ◌^◌, ◌<◌, ◌≤◌, Bool, true, false, ◌||◌, ◌⊎◌, sym, refl, ap, ◌∙◌, subst, inl, inr, pow-suc, arith, lit<}
 use Rattle.std.proofs.lemmas.Bool.{both_ways, cases_Bool, cases_eq, ltb-true, or_cases, or_left, or_right}
 use Rattle.std.proofs.lemmas.Bool.Decides.{nat_tests}
 use Rattle.quorum.specs.Rules.{Family, Lawful}
@@ -14,6 +14,15 @@ same_boxes (suc k) s t hs ht same =
     let rest : s / 2 ≡ t / 2 = same_boxes k (s / 2) (t / 2) (omega arith) (omega arith) (λ i. has_shr s 1 i ∙ same (1 + i) ∙ sym (has_shr t 1 i)) in
     let first = same 0 in
     grind (arith, nat_tests)
+
+-- and so are two of which each is part of the other
+pub same_parts : (k s t : ℕ) → s < 2 ^ k → t < 2 ^ k → Part s t → Part t s → s ≡ t
+same_parts k s t hs ht there back = same_boxes k s t hs ht (λ i. each (has s i) (has t i) (there i) (back i))
+  where
+    each : (a b : Bool) → (a ≡ true → b ≡ true) → (b ≡ true → a ≡ true) → a ≡ b
+    each true b f g = sym (f refl)
+    each false true f g = g refl
+    each false false f g = refl
 
 -- the set of box n alone
 has_own : (n : ℕ) → has (2 ^ n) n ≡ true
@@ -46,15 +55,7 @@ module _ (f : Family) (law : Lawful f) (s : ℕ) (inside : within f.boxes s ≡ 
 
   -- the same where the sets differ below n alone
   grown : (n q : ℕ) → f.quorum q ≡ true → Part q s → ((i : ℕ) → n ≤ i → has s i ≡ true → has q i ≡ true) → f.quorum s ≡ true
-  grown zero q h part back = subst (λ (t : ℕ). f.quorum t ≡ true) (same_boxes f.boxes q s (ltb-true q (2 ^ f.boxes) (law.inside q h)) small each) h
-    where
-      each : (i : ℕ) → has q i ≡ has s i
-      each i = go (cases_Bool (has q i)) (cases_Bool (has s i))
-        where
-          go : (has q i ≡ true) ⊎ (has q i ≡ false) → (has s i ≡ true) ⊎ (has s i ≡ false) → has q i ≡ has s i
-          go (inl e) d = e ∙ sym (part i e)
-          go (inr e) (inl d) = absurd (both_ways (has q i) e (back i (omega arith) d))
-          go (inr e) (inr d) = e ∙ sym d
+  grown zero q h part back = subst (λ (t : ℕ). f.quorum t ≡ true) (same_parts f.boxes q s (ltb-true q (2 ^ f.boxes) (law.inside q h)) small part (λ i. back i (omega arith))) h
   grown (suc n) q h part back = go (cases_Bool (has s n)) (grown n)
     where
       Rest : Type 0

@@ -1,3 +1,4 @@
+pub mod Found
 pub mod Growth
 pub mod Lowest
 pub mod Refused

@@ -1,12 +1,6 @@
--- The lowest box that passes a test, as the library's `find` gives it. Assumes nothing.
-use Rattle.std.proofs.Common.{◌≡◌, ℕ, zero, suc, ◌+◌, ◌<◌, ◌≤◌, Bool, true, false, cond, ◌⊎◌, Some, None, Option, Bor, sym, refl, ap, ◌∙◌, subst, inl, inr, arith}
+-- The lowest box that passes a test. Assumes nothing.
+use Rattle.std.proofs.Common.{◌≡◌, ℕ, zero, suc, ◌+◌, ◌<◌, ◌≤◌, Bool, true, false, cond, ◌⊎◌, Some, None, Option, sym, refl, ap, ◌∙◌, subst, inl, inr, arith}
 use Rattle.std.proofs.lemmas.Bool.{both_ways, cases_lt}
-use Rattle.std.specs.Option.{MatchOption}
-use Rattle.std.specs.Fn.{CalledAt, Mut}
-use Rattle.std.specs.Iterator.{FindsItem}
-use Rattle.std.proofs.lemmas.Iterator.{first_from_Range}
-use Rattle.std.proofs.iter.Yields.{nat_range_steps}
-use Rattle.std.specs.declared.ops.Range.{Range}
 use Rattle.quorum.specs.Boxes.{lowest, lowest_from, IsLowest}
 
 -- where no box below i passes, nor box i, none below i + 1 does
@@ -45,7 +39,7 @@ pub none_passes : (test : ℕ → Bool) (n : ℕ) → lowest test n ≡ None →
 none_passes test n e = subst (IsLowest test n) e (lowest_is_lowest test n)
 
 -- there is one lowest box at most
-lowest_one : (test : ℕ → Bool) (n : ℕ) (r s : Option ℕ) → IsLowest test n r → IsLowest test n s → r ≡ s
+pub lowest_one : (test : ℕ → Bool) (n : ℕ) (r s : Option ℕ) → IsLowest test n r → IsLowest test n s → r ≡ s
 lowest_one test n None None a b = refl
 lowest_one test n None (Some j) a b = absurd (both_ways (test j) (a j b.0) b.1)
 lowest_one test n (Some i) None a b = absurd (both_ways (test i) (b i a.0) a.1)
@@ -56,16 +50,29 @@ lowest_one test n (Some i) (Some j) a b = ap Some (go (cases_lt i j) (cases_lt j
     go (inr le) (inl lt) = absurd (both_ways (test j) (a.2 j lt) b.1)
     go (inr le) (inr ge) = omega arith
 
--- the library's `find` over the boxes below n gives the lowest that passes, where its closure tests just that
-pub lowest_find : {F : Type 0} {g : Mut F (Bor ℕ × Unit {0}) Bool} (test : ℕ → Bool) (n : ℕ) (u : Range ℕ) (f : F) (r : Option ℕ)
-    → FindsItem nat_range_steps g (record { start = 0; end = n }) f r u → ((x : ℕ) (b : Bool) (q : F) → CalledAt g f x b q → (q ≡ f) × (b ≡ test x)) → r ≡ lowest test n
-lowest_find test n u f r found same = lowest_one test n r (lowest test n) (law r first) (lowest_is_lowest test n)
-  where
-    first : MatchOption r ((k : ℕ) → 0 ≤ k → k < n → test k ≡ false) (λ i. (0 ≤ i) × (i < n) × (test i ≡ true) × ((k : ℕ) → 0 ≤ k → k < i → test k ≡ false))
-    first = first_from_Range _ u f r (λ k. test k ≡ true) (λ k. test k ≡ false) found (λ x q k. sym (same x true q k).1) (λ x q k. ((same x false q k).0, sym (same x false q k).1))
+-- a box that passes where none below it does is the lowest
+pub lowest_is : (test : ℕ → Bool) (n i : ℕ) → i < n → test i ≡ true → ((j : ℕ) → j < i → test j ≡ false) → lowest test n ≡ Some i
+lowest_is test n i lt there below = lowest_one test n (lowest test n) (Some i) (lowest_is_lowest test n) (lt, there, below)
 
-    law : (o : Option ℕ)
-        → MatchOption o ((k : ℕ) → 0 ≤ k → k < n → test k ≡ false) (λ i. (0 ≤ i) × (i < n) × (test i ≡ true) × ((k : ℕ) → 0 ≤ k → k < i → test k ≡ false))
-        → IsLowest test n o
-    law None h = λ i lt. h i (omega arith) lt
-    law (Some i) h = (h.1, h.2, λ j lt. h.3 j (omega arith) lt)
+-- a test that fails below n and past n fails everywhere
+nowhere : (test : ℕ → Bool) (n : ℕ) → ((i : ℕ) → n ≤ i → test i ≡ false) → ((i : ℕ) → i < n → test i ≡ false) → (i : ℕ) → test i ≡ false
+nowhere test n past below i = pick (cases_lt i n)
+  where
+    pick : (i < n) ⊎ (n ≤ i) → test i ≡ false
+    pick (inl lt) = below i lt
+    pick (inr le) = past i le
+
+-- tests that agree, and fail past the roster's end, pass first at one box, whichever of two rosters it is sought in
+pub lowest_alike : (p q : ℕ → Bool) (n m : ℕ) → ((i : ℕ) → p i ≡ q i) → ((i : ℕ) → n ≤ i → p i ≡ false) → ((i : ℕ) → m ≤ i → q i ≡ false) → lowest p n ≡ lowest q m
+lowest_alike p q n m same past_n past_m = go (lowest p n) (lowest q m) (lowest_is_lowest p n) (lowest_is_lowest q m)
+  where
+    go : (r s : Option ℕ) → IsLowest p n r → IsLowest q m s → r ≡ s
+    go None None a b = refl
+    go None (Some j) a b = absurd (both_ways (q j) (sym (same j) ∙ nowhere p n past_n a j) b.1)
+    go (Some i) None a b = absurd (both_ways (p i) (same i ∙ nowhere q m past_m b i) a.1)
+    go (Some i) (Some j) a b = ap Some (one (cases_lt i j) (cases_lt j i))
+      where
+        one : (i < j) ⊎ (j ≤ i) → (j < i) ⊎ (i ≤ j) → i ≡ j
+        one (inl lt) d = absurd (both_ways (q i) (b.2 i lt) (sym (same i) ∙ a.1))
+        one (inr le) (inl lt) = absurd (both_ways (p j) (a.2 j lt) (same j ∙ b.1))
+        one (inr le) (inr ge) = omega arith

@@ -1,6 +1,6 @@
 // Sets of boxes: a number whose bit i stands for box i.
-ghost use Rattle.std.specs.Prelude.{◌≡◌, ◌/◌, ◌^◌, ◌≤◌, min, Decides, ◌==◌};
-ghost use Rattle.quorum.specs.Sets.{has, count, tally, everyone, within, AllBelow, NoneAbove};
+ghost use Rattle.std.specs.Prelude.{◌≡◌, ◌/◌, ◌^◌, ◌≤◌, min, Decides, ◌==◌, if◌then◌else◌, nat_lt};
+ghost use Rattle.quorum.specs.Sets.{has, added as added_to, count, tally, everyone, within, AllBelow, NoneAbove};
 
 pub type BoxSet = u32;
 
@@ -61,4 +61,11 @@ pub fn all_below(n: usize) -> BoxSet
     ensures boxes { AllBelow (min n 32) result }
 {
     lowest(n.min(MAX_BOXES))
+}
+
+// The set with box `i` added; a set has no box past 31.
+pub fn added(set: BoxSet, i: usize) -> BoxSet
+    ensures { result ≡ (if nat_lt i 32 then added_to set i else set) }
+{
+    if i < MAX_BOXES { set | 1 << i } else { set }
 }

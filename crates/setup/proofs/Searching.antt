@@ -2,10 +2,11 @@
 use Rattle.std.proofs.Common.{◌≡◌, ℕ, zero, suc, ◌+◌, ◌<◌, ◌≤◌, Bool, true, false, cond, ◌⊎◌, List, [], ◌∷◌, map, length, get_or, Some, None, Option, sym, refl, ap, ◌∙◌, subst, inl, inr, add-zero, zero-add, arith}
 use Rattle.std.proofs.lemmas.List.{at_drop_all, at_drop_more, get_or-map, length-map}
 use Rattle.std.proofs.lemmas.Bool.{both_ways, cases_Bool, cond-false, cond-true}
-use Rattle.quorum.specs.Sets.{has}
+use Rattle.quorum.specs.Sets.{everyone, has}
 use Rattle.quorum.proofs.Somes.{some_is, some_none}
 use Rattle.setup.specs.Orders.{Ordered}
 use Rattle.setup.specs.Rows.{among, entry, first, onward, sooner, IsFirst}
+use Rattle.setup.proofs.Gathering.{among_all}
 
 -- box i of the row with none at the boxes that are not in the set
 pub entry_among : {V : Type 0} (row : List (Option V)) (s k i : ℕ) → entry (among row s k) i ≡ cond (has s (k + i)) (entry row i) None
@@ -18,6 +19,20 @@ entry_among (x ∷ row) s k zero = ap (λ (j : ℕ). cond (has s j) x None) (sym
 entry_among (x ∷ row) s k (suc i) =
     let next : k + 1 + i ≡ k + suc i = omega arith in
     entry_among row s (k + 1) i ∙ ap (λ (j : ℕ). cond (has s j) (entry row i) None) next
+
+-- so what stands at a box of the set stands there, and nothing at another box; and the other way round
+pub among_in : {V : Type 0} (row : List (Option V)) (s i : ℕ) → has s i ≡ true → entry (among row s 0) i ≡ entry row i
+among_in row s i h = entry_among row s 0 i ∙ cond-true (has s (0 + i)) (entry row i) None (ap (has s) (zero-add i) ∙ h)
+
+pub among_out : {V : Type 0} (row : List (Option V)) (s i : ℕ) → has s i ≡ false → entry (among row s 0) i ≡ None
+among_out row s i h = entry_among row s 0 i ∙ cond-false (has s (0 + i)) (entry row i) None (ap (has s) (zero-add i) ∙ h)
+
+pub among_from : {V : Type 0} (row : List (Option V)) (s i : ℕ) (v : V) → entry (among row s 0) i ≡ Some v → (has s i ≡ true) × (entry row i ≡ Some v)
+among_from row s i v e = go (cases_Bool (has s i))
+  where
+    go : ((has s i ≡ true) ⊎ (has s i ≡ false)) → (has s i ≡ true) × (entry row i ≡ Some v)
+    go (inl h) = (h, sym (among_in row s i h) ∙ e)
+    go (inr h) = absurd (some_none (sym e ∙ among_out row s i h))
 
 -- what is left of the search at box i: what it has, if it is in the set, and what is left at the next
 onward_at : {V : Type 0} (before : V → V → Bool) (row : List (Option V)) (s i : ℕ) (y : Option V) → i < length row → y ≡ cond (has s i) (entry row i) None
@@ -41,7 +56,7 @@ turn_passes {T} {V} before f row s i best all lt outside so_far =
 
 module _ {V : Type 0} {before : V → V → Bool} (o : Ordered before) where
   -- no two come before each other
-  one_way : (a b : V) → before a b ≡ true → before b a ≡ false
+  pub one_way : (a b : V) → before a b ≡ true → before b a ≡ false
   one_way a b h = go (cases_Bool (before b a))
     where
       go : ((before b a ≡ true) ⊎ (before b a ≡ false)) → before b a ≡ false
@@ -69,7 +84,7 @@ module _ {V : Type 0} {before : V → V → Bool} (o : Ordered before) where
       sym (sooner_none best) ∙ sym (at_drop_all (λ (l : List (Option V)). sooner before best (first before (among l s i))) row i end) ∙ inv
 
   -- the first of a row: it stands there, and nothing that stands there comes before it
-  abbrev Least : List (Option V) → Option V → Type 0
+  abbrev pub Least : List (Option V) → Option V → Type 0
   Least row None = (i : ℕ) → entry row i ≡ None
   Least row (Some v) = ((i : ℕ) × (entry row i ≡ Some v)) × ((i : ℕ) (w : V) → entry row i ≡ Some w → before w v ≡ false)
 
@@ -99,26 +114,22 @@ module _ {V : Type 0} {before : V → V → Bool} (o : Ordered before) where
       pick true g = ((suc h.0.0, h.0.1), rest v (one_way v a g) (o.irreflexive v))
       pick false g = ((zero, refl), rest a (o.irreflexive a) g)
 
-  least : (row : List (Option V)) → Least row (first before row)
+  pub least : (row : List (Option V)) → Least row (first before row)
   least [] = λ i. refl
   least (x ∷ row) = joins row x (first before row) (least row)
 
-  -- what stands at box i of the set
-  seen : (row : List (Option V)) (s i : ℕ) → has s i ≡ true → entry (among row s 0) i ≡ entry row i
-  seen row s i h = entry_among row s 0 i ∙ ap (λ (b : Bool). cond b (entry row i) None) (ap (has s) (zero-add i) ∙ h)
-
-  there : (row : List (Option V)) (s i : ℕ) (v : V) → entry (among row s 0) i ≡ Some v → (has s i ≡ true) × (entry row i ≡ Some v)
-  there row s i v e = go (cases_Bool (has s i))
-    where
-      go : ((has s i ≡ true) ⊎ (has s i ≡ false)) → (has s i ≡ true) × (entry row i ≡ Some v)
-      go (inl h) = (h, sym (seen row s i h) ∙ e)
-      go (inr h) = absurd (some_none (sym e ∙ entry_among row s 0 i ∙ ap (λ (b : Bool). cond b (entry row i) None) (ap (has s) (zero-add i) ∙ h)))
+  -- and no other does so
+  pub least_one : (row : List (Option V)) (x y : Option V) → Least row x → Least row y → x ≡ y
+  least_one row None None h g = refl
+  least_one row None (Some w) h g = absurd (some_none (sym g.0.1 ∙ h g.0.0))
+  least_one row (Some v) None h g = absurd (some_none (sym h.0.1 ∙ g h.0.0))
+  least_one row (Some v) (Some w) h g = ap {B = Option V} Some (o.total v w (g.1 h.0.0 v h.0.1) (h.1 g.0.0 w g.0.1))
 
   among_first : (row : List (Option V)) (s : ℕ) (r : Option V) → Least (among row s 0) r → IsFirst before row s r
-  among_first row s None h = λ i inside. sym (seen row s i inside) ∙ h i
+  among_first row s None h = λ i inside. sym (among_in row s i inside) ∙ h i
   among_first row s (Some v) h = (
-    (h.0.0, (there row s h.0.0 v h.0.1).0, (there row s h.0.0 v h.0.1).1),
-    λ i w inside e other. sooner_than w other (h.1 i w (seen row s i inside ∙ e)) (cases_Bool (before v w)),
+    (h.0.0, (among_from row s h.0.0 v h.0.1).0, (among_from row s h.0.0 v h.0.1).1),
+    λ i w inside e other. sooner_than w other (h.1 i w (among_in row s i inside ∙ e)) (cases_Bool (before v w)),
   )
     where
       sooner_than : (w : V) → (w ≡ v → ⊥) → before w v ≡ false → ((before v w ≡ true) ⊎ (before v w ≡ false)) → before v w ≡ true
@@ -152,3 +163,9 @@ module _ {V : Type 0} {before : V → V → Bool} (o : Ordered before) where
   -- the first among the boxes of a set depends on no other box
   pub first_alike : (row other : List (Option V)) (s : ℕ) → ((i : ℕ) → has s i ≡ true → entry row i ≡ entry other i) → first before (among row s 0) ≡ first before (among other s 0)
   first_alike row other s same = one_first row other s _ _ same (first_is_first row s) (first_is_first other s)
+
+  -- so rows with the same at every box have one first
+  pub first_same : (row other : List (Option V)) → ((i : ℕ) → entry row i ≡ entry other i) → first before row ≡ first before other
+  first_same row other same =
+      let n = length row + length other in
+      sym (ap (first before) (among_all row n (omega arith))) ∙ first_alike row other (everyone n) (λ i h. same i) ∙ ap (first before) (among_all other n (omega arith))

@@ -1,5 +1,5 @@
--- A row has for each box a setup or none; the search finds the first among the boxes of a set. Assumes nothing.
-use Rattle.std.specs.Prelude.{◌≡◌, ℕ, ◌+◌, Bool, true, cond, List, [], ◌∷◌, drop, Some, None, Option, ◌≢◌, slice_index_or}
+-- A row has for each box a setup or none; the search finds the first among the boxes of a set, and the boxes that have a setup are a set. Assumes nothing.
+use Rattle.std.specs.Prelude.{◌≡◌, ℕ, ◌+◌, ◌*◌, Bool, true, false, cond, not, ◌&&◌, List, [], ◌∷◌, drop, Some, None, Option, ◌≢◌, slice_index_or}
 use Rattle.quorum.specs.Sets.{has}
 
 -- what stands at box i of a row: none past its end
@@ -33,3 +33,17 @@ IsFirst before row s None = (i : ℕ) → has s i ≡ true → entry row i ≡ N
 IsFirst {V} before row s (Some v) =
     ((i : ℕ) × (has s i ≡ true) × (entry row i ≡ Some v))
     × ((i : ℕ) (w : V) → has s i ≡ true → entry row i ≡ Some w → (w ≢ v) → before v w ≡ true)
+
+-- two setups are the same: neither comes before the other
+abbrev pub same : {V : Type 0} → (V → V → Bool) → V → V → Bool
+same before v w = not (before v w) && not (before w v)
+
+-- the entry is this setup
+abbrev pub is : {V : Type 0} → (V → V → Bool) → V → Option V → Bool
+is before v None = false
+is before v (Some w) = same before v w
+
+-- the set of the boxes that have v in the row
+abbrev pub boxes_with : {V : Type 0} → (V → V → Bool) → V → List (Option V) → ℕ
+boxes_with before v [] = 0
+boxes_with before v (x ∷ row) = cond (is before v x) 1 0 + 2 * boxes_with before v row

@@ -1,7 +1,6 @@
 // One search: the first setup among the boxes of a set.
-ghost use Rattle.std.specs.Prelude.{◌≡◌, ◌+◌, ◌<◌, map, length, if◌then◌else◌, Some, None, Option};
-ghost use Rattle.quorum.specs.Sets.{has};
-ghost use Rattle.setup.specs.Rows.{among, entry as entry_of, first as first_of, onward, sooner as sooner_of, IsFirst};
+ghost use Rattle.std.specs.Prelude.{◌≡◌, map, Some, Option};
+ghost use Rattle.setup.specs.Rows.{among, first as first_of, sooner as sooner_of, IsFirst};
 
 use crate::orders::Setup;
 use quorum::sets::{BoxSet, contains};
@@ -38,8 +37,8 @@ impl<V: Setup> Field<Option<V>, V> for Optional {
     }
 }
 
-// The one of two that comes first.
-fn sooner<V: Setup>(a: Option<V>, b: Option<V>) -> Option<V>
+// The one of two that comes first; none comes last.
+pub fn sooner<V: Setup>(a: Option<V>, b: Option<V>) -> Option<V>
     ensures value { result ≡ sooner_of V.Setup.before a b }
     ensures moves { (rest : Option V) → sooner_of V.Setup.before result rest ≡ sooner_of V.Setup.before a (sooner_of V.Setup.before b rest) }
 {

@@ -1,5 +1,5 @@
 use Rattle.std.proofs.Common.{rules}
-use Rattle.quorum.proofs.Lowest.{lowest_find}
+use Rattle.quorum.proofs.Found.{lowest_find}
 use Rattle.book.specs.Keeping.{read}
 use Rattle.book.specs.Pages.{defects}
 use Rattle.book.proofs.guards.Round.lowest_defector.Goals as goal

@@ -1,5 +1,5 @@
 use Rattle.std.proofs.Common.{rules}
-use Rattle.quorum.proofs.Lowest.{lowest_find}
+use Rattle.quorum.proofs.Found.{lowest_find}
 use Rattle.book.specs.Pages.{unbacked}
 use Rattle.book.proofs.guards.Round.lowest_unbacked.Goals as goal
 
