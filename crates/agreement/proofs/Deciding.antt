@@ -1,10 +1,10 @@
 -- Rounds of voting that meet both guards decide on one setup. Assumes nothing.
-use Rattle.std.proofs.Common.{◌≡◌, ℕ, ◌<◌, ◌≤◌, ◌⊎◌, List, Some, Option, sym, ◌∙◌, subst, inl, inr, arith}
+use Rattle.std.proofs.Common.{◌≡◌, ℕ, ◌<◌, ◌≤◌, ◌⊎◌, List, Some, Option, sym, subst, inl, inr, arith}
 use Rattle.std.proofs.lemmas.Bool.{cases_lt}
 use Rattle.quorum.specs.Rules.{Family, Lawful}
-use Rattle.quorum.proofs.Somes.{some_is}
 use Rattle.setup.specs.Rows.{entry}
 use Rattle.book.specs.Voting.{Guards}
+use Rattle.agreement.proofs.Forming.{one_formed}
 
 module _ {V : Type 0} (f : Family) (law : Lawful f) (votes decisions : ℕ → List (Option V)) where
   -- what is decided in one round is what was decided in an earlier one
@@ -16,13 +16,6 @@ module _ {V : Type 0} (f : Family) (law : Lawful f) (votes decisions : ℕ → L
       let shared = law.shares a.0 b.0 a.1 b.1 in
       h.0 j lt a.0 shared.0 v w a.1 a.2 shared.1 (b.2 shared.0 shared.2)
 
-  same : (j i m : ℕ) (v w : V) → Guards f votes j (votes j) (decisions j) → entry (decisions j) i ≡ Some v → entry (decisions j) m ≡ Some w → v ≡ w
-  same j i m v w g d e =
-      let a = g.1 i v d in
-      let b = g.1 m w e in
-      let shared = law.shares a.0 b.0 a.1 b.1 in
-      some_is (sym (a.2 shared.0 shared.1) ∙ b.2 shared.0 shared.2)
-
   pub one_decision : (n : ℕ) → ((k : ℕ) → k < n → Guards f votes k (votes k) (decisions k))
       → (j k i m : ℕ) (v w : V) → j < n → k < n → entry (decisions j) i ≡ Some v → entry (decisions k) m ≡ Some w → v ≡ w
   one_decision n guards j k i m v w jn kn d e = go (cases_lt j k) (cases_lt k j)
@@ -32,4 +25,4 @@ module _ {V : Type 0} (f : Family) (law : Lawful f) (votes decisions : ℕ → L
       go (inr le) (inl lt) = earlier k j m i w v lt (guards k kn) (guards j jn) e d
       go (inr le) (inr ge) =
           let eq : k ≡ j = omega arith in
-          same j i m v w (guards j jn) d (subst (λ (x : ℕ). entry (decisions x) m ≡ Some w) eq e)
+          one_formed f law v w (votes j) ((guards j jn).1 i v d) ((guards j jn).1 m w (subst (λ (x : ℕ). entry (decisions x) m ≡ Some w) eq e))

@@ -9,6 +9,22 @@ use Rattle.agreement.specs.Inside.{At}
 use Rattle.agreement.specs.Protocols.{Protocol, beaten, numbered}
 use Rattle.agreement.specs.Slips.{opened, opening, slip_at}
 
+-- where a slip's setups have each of its fields
+abbrev pub at_own : ℕ
+at_own = 0
+
+abbrev pub at_pick : ℕ
+at_pick = 1
+
+abbrev pub at_say : ℕ
+at_say = 2
+
+abbrev pub at_held : ℕ
+at_held = 5
+
+abbrev pub at_dated : ℕ
+at_dated = 6
+
 -- an item at place i
 abbrev pub item : {A : Type 0} → List A → ℕ → Option A
 item xs i = entry (map Some xs) i

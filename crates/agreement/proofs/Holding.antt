@@ -12,7 +12,7 @@ use Rattle.agreement.specs.Promise.{Agreement, Call, ClearPhase, Holds, Moment, 
 use Rattle.agreement.specs.Protocols.{Protocol}
 use Rattle.agreement.specs.Slips.{Stands, casts, held, news, opened, opening, setups, slip_at}
 use Rattle.agreement.proofs.Deciding.{one_decision}
-use Rattle.agreement.proofs.Entries.{beaten_from, beaten_item, beaten_length, field_at, field_from, item_inside, opened_from}
+use Rattle.agreement.proofs.Entries.{at_held, beaten_from, beaten_item, beaten_length, field_at, field_from, item_inside, opened_from}
 use Rattle.agreement.proofs.Moments.{Advances, advances, clock_of, course, finished, heard_is, in_phase, runs, step, table_at, table_is, fills, begins}
 use Rattle.agreement.proofs.Taking.{Comes, Taken}
 
@@ -237,7 +237,7 @@ module _ {V : Type 0} (p : Protocol V) (law : Lawful p) (proposals : List V) (ca
   pub validity : Validity proposals calls at
   validity t i v le e =
       let f = field_from (λ s. s.held) (at t).table i v e in
-      sourced t i f.0 v le f.1 (5, f.2)
+      sourced t i f.0 v le f.1 (at_held, f.2)
 
   -- ---- settling
 

@@ -2,6 +2,8 @@ pub mod Beating
 pub mod Bookkeeping
 pub mod Deciding
 pub mod Entries
+pub mod Every
+pub mod Forming
 pub mod Holding
 pub mod Moments
 pub mod Naming

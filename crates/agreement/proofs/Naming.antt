@@ -14,6 +14,7 @@ use Rattle.agreement.specs.Protocols.{Protocol}
 
 -- the fault names the lowest stranger, if it is for one
 abbrev Named : ℕ → List ℕ → RunFault → Type 0
+Named n heard (fault.Rule f) = Unit {0}
 Named n heard fault.NoBox = Unit {0}
 Named n heard (fault.Length rank) = Unit {0}
 Named n heard fault.Closed = Unit {0}

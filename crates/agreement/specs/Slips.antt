@@ -12,6 +12,10 @@ opening v = record { own = v; pick = None; say = None; cast = None; news = None;
 abbrev pub turned : {V : Type 0} → Option V → Option V → Slip V → Slip V
 turned cast news s = record { own = s.own; pick = s.pick; say = s.say; cast = cast; news = news; held = option_or news s.held; dated = s.dated }
 
+-- the slip without cast and news, every other field keeping
+abbrev pub quiet : {V : Type 0} → Slip V → Slip V
+quiet s = turned None None s
+
 -- the table at the opening
 abbrev pub opened : {V : Type 0} → List V → List (Slip V)
 opened proposals = map opening proposals

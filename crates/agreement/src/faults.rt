@@ -1,11 +1,14 @@
 // What a run declines with.
 ghost use Rattle.std.specs.Prelude.{◌≡◌};
 ghost use Rattle.agreement.specs.Faults.{of_run};
+ghost use Rattle.agreement.specs.declared.faults.RunFault.TheVariants.{Rule};
 
-use quorum::refusals::{Fault, Layer, Refusal};
+use quorum::refusals::{Fault, Layer, Refusal, RuleFault};
 
 #[derive(Clone, Copy, Debug, PartialEq)]
 pub enum RunFault {
+    // where the call makes the rule itself: the fault that the rule's making found
+    Rule(RuleFault),
     NoBox,
     // the rank of the list in the call, from 1, as reports give it
     Length(usize),
@@ -15,11 +18,20 @@ pub enum RunFault {
     Wait(usize),
 }
 
+impl From<RuleFault> for RunFault {
+    ghost from_gives = { λ fault r. r ≡ Rule fault };
+
+    fn from(fault: RuleFault) -> RunFault {
+        RunFault::Rule(fault)
+    }
+}
+
 impl From<RunFault> for Fault {
     ghost from_gives = { λ fault r. r ≡ of_run fault };
 
     fn from(fault: RunFault) -> Fault {
         let (refusal, place) = match fault {
+            RunFault::Rule(fault) => return Fault::from(fault),
             RunFault::NoBox => (Refusal::NoBox, 0),
             RunFault::Length(rank) => (Refusal::Length, rank),
             RunFault::Closed => (Refusal::Closed, 0),

@@ -1,6 +1,6 @@
 // The slip: what one box knows and sends.
 ghost use Rattle.std.specs.Prelude.{◌≡◌};
-ghost use Rattle.agreement.specs.Slips.{opening, turned};
+ghost use Rattle.agreement.specs.Slips.{opening, quiet, turned};
 
 use setup::dated::DatedVote;
 
@@ -48,5 +48,12 @@ impl<V: Copy> Slip<V> {
             held: news.or(self.held),
             ..self
         }
+    }
+
+    // The slip without cast and news, every other field keeping.
+    pub fn quiet(self) -> Slip<V>
+        ensures { result ≡ quiet self }
+    {
+        self.turned(None, None)
     }
 }

@@ -1,5 +1,5 @@
 use Rattle.std.proofs.Common.{rules}
-use Rattle.quorum.proofs.Lowest.{lowest_find}
+use Rattle.quorum.proofs.Found.{lowest_find}
 use Rattle.agreement.specs.Calls.{estranged}
 use Rattle.agreement.proofs.hearing.Given.stranger.Goals as goal
 
