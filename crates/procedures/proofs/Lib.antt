@@ -1,0 +1,10 @@
+pub mod Clearing
+pub mod Counting
+pub mod Enough
+pub mod Finding
+pub mod LeaderlessRound
+pub mod Messaging
+pub mod Polling
+pub mod ThirdsRound
+pub mod Trying
+pub mod UniformRound

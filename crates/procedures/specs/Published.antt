@@ -1,0 +1,4 @@
+pub mod Messages
+pub mod OneThirdRule
+pub mod UniformVoting
+pub mod LeaderlessVoting
