@@ -1,23 +1,25 @@
 -- Unison keeps the laws, over every rule and kind of setup. Assumes nothing.
-use Rattle.std.specs.Prelude.{◌≡◌, ℕ, zero, suc, ◌^◌, ◌<◌, Bool, true, List, map, length, Some, None, Option, unwrap_or, slice_index}
-use Rattle.std.proofs.Common.{inl, inr, sym, ap, ◌∙◌, refl, subst, arith}
+use Rattle.std.specs.Prelude.{◌≡◌, ℕ, suc, ◌<◌, ◌≤◌, Bool, true, List, length, Some, Option, unwrap_or}
+use Rattle.std.proofs.Common.{sym, ap, ◌∙◌, refl, subst, arith}
 use Rattle.std.proofs.lemmas.List.{length-map}
-use Rattle.std.proofs.lemmas.Bool.{eq-eqb, eqb-true, lt-ltb}
-use Rattle.std.proofs.Math.Pow.{ones_lt}
-use Rattle.quorum.specs.Members.{has_everyone, has_below}
+use Rattle.std.proofs.lemmas.Bool.{eq-eqb, eqb-true}
 use Rattle.quorum.specs.Rules.{Family, Lawful as RuleLawful}
 use Rattle.quorum.specs.Sets.{everyone, within}
-use Rattle.quorum.proofs.Somes.{some_is, some_none}
+use Rattle.quorum.proofs.Somes.{some_is}
 use Rattle.setup.specs.Orders.{Ordered}
-use Rattle.setup.specs.Rows.{IsFirst, entry}
-use Rattle.setup.proofs.Searching.{first_alike, first_is_first}
+use Rattle.setup.specs.Rows.{entry, first}
 use Rattle.book.specs.Voting.{Backed, Guards, Loyal}
 use Rattle.agreement.specs.declared.slips.Slip.{Slip}
 use Rattle.agreement.specs.Laws.{Alike, AllAdmitted, AllHold, Course, Lawful, Read, ended}
 use Rattle.agreement.specs.Protocols.{Protocol, beaten}
-use Rattle.agreement.specs.Slips.{casts, news, opened, setups, slip_at}
-use Rattle.agreement.proofs.Entries.{beaten_from, beaten_length, field_alike, field_at, field_from, item_inside, item_there}
-use Rattle.trials.specs.Unison.{agreed, first_own, owns, unison}
+use Rattle.agreement.specs.Slips.{Stands, casts, news, opened, setups}
+use Rattle.agreement.proofs.Entries.{at_dated, at_pick, at_say}
+use Rattle.agreement.proofs.Every.{Every, any_slips, every_beaten, every_entry, every_field, every_sent, from_then, start}
+use Rattle.procedures.specs.Received.{own, received}
+use Rattle.procedures.specs.Laws.Reading.{Reads, So, had, new_reads, taken_read}
+use Rattle.procedures.specs.Laws.Received.{first_is_alike, first_there}
+use Rattle.procedures.specs.Laws.Sent.{first_all, own_stands}
+use Rattle.trials.specs.Unison.{agreed, unison}
 
 module _ {V : Type 0} {before : V → V → Bool} (o : Ordered before) (f : Family) (law : RuleLawful f) where
   abbrev p : Protocol V
@@ -29,127 +31,100 @@ module _ {V : Type 0} {before : V → V → Bool} (o : Ordered before) (f : Fami
   abbrev all : ℕ
   all = everyone n
 
+  -- what a box takes
+  abbrev taken : ℕ → List (Slip V) → Slip V → V
+  taken s table slip = unwrap_or (first before (received own table s)) slip.own
+
   -- ---- one slip
 
-  -- what a box takes stood in a slip that it read
-  took : (slip : Slip V) (s : ℕ) (table : List (Slip V)) (v : V) (r : Option V) → IsFirst before (owns table) s r → unwrap_or r slip.own ≡ v → Read slip s table v
-  took slip s table v None h e = inl (0, ap {B = Option V} Some e)
-  took slip s table v (Some w) h e =
-      let from = field_from (λ (x : Slip V). Some x.own) table h.0.0 w h.0.2 in
-      inr (h.0.0, from.0, h.0.1, from.1, (0, from.2 ∙ ap {B = Option V} Some e))
-
-  -- every setup of the new slip is the one that it takes, or stood in the old one
-  stood : (slip : Slip V) (s : ℕ) (table : List (Slip V)) (v : V) → Read slip s table v → (x : V) (i : ℕ) → entry (setups (agreed v slip)) i ≡ Some x → Read slip s table x
-  stood slip s table v r x zero e = subst (Read slip s table) (some_is e) r
-  stood slip s table v r x (suc zero) e = inl (1, e)
-  stood slip s table v r x (suc (suc zero)) e = inl (2, e)
-  stood slip s table v r x (suc (suc (suc zero))) e = subst (Read slip s table) (some_is e) r
-  stood slip s table v r x (suc (suc (suc (suc zero)))) e = subst (Read slip s table) (some_is e) r
-  stood slip s table v r x (suc (suc (suc (suc (suc zero))))) e = subst (Read slip s table) (some_is e) r
-  stood slip s table v r x (suc (suc (suc (suc (suc (suc i)))))) e = inl (suc (suc (suc (suc (suc (suc i))))), e)
-
-  -- what a box takes depends on the slips that it heard only
-  alike : (s : ℕ) (t u : List (Slip V)) → Alike s t u → first_own before s t ≡ first_own before s u
-  alike s t u same = first_alike o (owns t) (owns u) s (λ i h. field_alike (λ (x : Slip V). Some x.own) t u i (same i h))
-
-  -- ---- a table
-
-  -- every slip of the table has agreed on v
-  pub record Agreed (v : V) (table : List (Slip V)) : Type 0 where
-    pub count : length table ≡ n
-    pub each : (i : ℕ) (slip : Slip V) → slip_at table i ≡ Some slip → (old : Slip V) × (slip ≡ agreed v old)
-
-  -- one field of it
-  agreed_field : (v w : V) (table : List (Slip V)) (field : Slip V → Option V) → ((old : Slip V) → field (agreed v old) ≡ Some v) → Agreed v table → (i : ℕ) → entry (map field table) i ≡ Some w → w ≡ v
-  agreed_field v w table field reads a i e =
-      let from = field_from field table i w e in
-      let is = a.each i from.0 from.1 in
-      some_is (sym from.2 ∙ ap field is.1 ∙ reads is.0)
-
-  agreed_entry : (v : V) (table : List (Slip V)) (field : Slip V → Option V) → ((old : Slip V) → field (agreed v old) ≡ Some v) → Agreed v table → (i : ℕ) → i < n → entry (map field table) i ≡ Some v
-  agreed_entry v table field reads a i lt =
-      let there = item_there table i (subst (λ (m : ℕ). i < m) (sym a.count) lt) in
-      let is = a.each i there.0 there.1 in
-      field_at field table i there.0 there.1 ∙ ap field is.1 ∙ reads is.0
-
-  -- the first setup of a whole table: there is one
-  first_there : (table : List (Slip V)) → length table ≡ n → (v : V) × (first_own before all table ≡ Some v)
-  first_there table long = go (first_own before all table) refl (first_is_first o (owns table) all)
+  -- every setup of a new slip stood in a slip that it read
+  agreed_reads : (slip : Slip V) (s : ℕ) (table : List (Slip V)) (v : V) → Stands v (setups (agreed (taken s table slip) slip)) → Read slip s table v
+  agreed_reads slip s table = new_reads slip s table (agreed (taken s table slip) slip) (taken_read slip s table o) (read at_pick) (read at_say) takes takes refl (read at_dated)
     where
-      go : (r : Option V) → first_own before all table ≡ r → IsFirst before (owns table) all r → (v : V) × (first_own before all table ≡ Some v)
-      go (Some v) e h = (v, e)
-      go None e h =
-          let some : 0 < n = omega (arith, law.roster) in
-          let there = item_there table 0 (subst (λ (m : ℕ). 0 < m) (sym long) some) in
-          absurd (some_none (sym (sym (h 0 (has_everyone n 0 some)) ∙ field_at (λ (x : Slip V). Some x.own) table 0 there.0 there.1)))
+      read : (i : ℕ) → So (Reads slip s table) (entry (setups slip) i)
+      read = had slip s table
 
-  -- the first setup of a table that has agreed is what they agreed on
-  first_agreed : (v : V) (table : List (Slip V)) → Agreed v table → first_own before all table ≡ Some v
-  first_agreed v table a =
-      let there = first_there table a.count in
-      go there.0 there.1 (subst (IsFirst before (owns table) all) there.1 (first_is_first o (owns table) all))
-    where
-      go : (w : V) → first_own before all table ≡ Some w → IsFirst before (owns table) all (Some w) → first_own before all table ≡ Some v
-      go w e h = e ∙ ap {B = Option V} Some (agreed_field v w table (λ x. Some x.own) (λ x. refl) a h.0.0 h.0.2)
+      takes : So (Reads slip s table) (Some (taken s table slip))
+      takes v e = subst (Reads slip s table) (some_is e) (taken_read slip s table o)
 
-  -- a beat in which all hear all: they agree on the first
-  beat_agrees : (k : ℕ) (heard : List ℕ) (v : V) (table : List (Slip V)) → length table ≡ n → AllAdmitted p k 0 heard → first_own before all table ≡ Some v → Agreed v (beaten p k 0 heard table)
-  beat_agrees k heard v table long admitted e = record { count = beaten_length p k 0 heard table ∙ long; each = each }
+  -- a new slip depends on the slips that it heard only
+  reads_heard : (s : ℕ) (slip : Slip V) (t u : List (Slip V)) → Alike s t u → agreed (taken s t slip) slip ≡ agreed (taken s u slip) slip
+  reads_heard s slip t u same = ap (λ (r : Option V). agreed (unwrap_or r slip.own) slip) (first_is_alike o own t u s same)
+
+  -- the slip of a box that has agreed on v
+  record Agreed (v : V) (slip : Slip V) : Type 0 where
+    stands : slip.own ≡ v
+    votes : slip.cast ≡ Some v
+    decides : slip.news ≡ Some v
+    holds : slip.held ≡ Some v
+
+  -- ---- one beat
+
+  -- all hear all, so they agree on the first setup of the table
+  agrees : (k : ℕ) (heard : List ℕ) (table : List (Slip V)) (v : V) → length table ≡ n → AllAdmitted p k 0 heard → first before (received own table all) ≡ Some v
+      → Every n (Agreed v) (beaten p k 0 heard table)
+  agrees k heard table v long admitted e =
+      every_beaten p k 0 heard table (Agreed v) (any_slips table long) (λ s. s ≡ all) (λ i lt. eqb-true _ all (admitted.each i lt).admits)
+      (λ i s old whole x. step old (ap (λ (s : ℕ). taken s table old) whole ∙ ap (λ (r : Option V). unwrap_or r old.own) e))
     where
-      each : (i : ℕ) (slip : Slip V) → slip_at (beaten p k 0 heard table) i ≡ Some slip → (old : Slip V) × (slip ≡ agreed v old)
-      each i slip at =
-          let from = beaten_from p k 0 heard table i slip at in
-          let lt = subst (λ (m : ℕ). i < m) long (item_inside table i from.0 from.1) in
-          let whole = eqb-true (slice_index heard i) all (admitted.each i lt).admits in
-          (from.0, from.2 ∙ ap (λ (s : ℕ). agreed (unwrap_or (first_own before s table) from.0.own) from.0) whole ∙ ap (λ (r : Option V). agreed (unwrap_or r from.0.own) from.0) e)
+      step : {w : V} (old : Slip V) → w ≡ v → Agreed v (agreed w old)
+      step old is = let same = ap {B = Option V} Some is in record { stands = is; votes = same; decides = same; holds = same }
+
+  -- and of a table that has agreed that is what they agreed on
+  stays : (v : V) (table : List (Slip V)) → Every n (Agreed v) table → first before (received own table all) ≡ Some v
+  stays v table so = first_all o f law v _ all law.whole (every_sent so own v (λ slip a. ap {B = Option V} Some a.stands) all (law.inside all law.whole))
 
   -- ---- a run
 
-  -- they agree in phase 0, and keep to it
-  keeps : (proposals : List V) (heard : ℕ → ℕ → List ℕ) (v : V) → first_own before all (opened proposals) ≡ Some v → (k : ℕ) → Course p proposals heard (suc k) → Agreed v (ended p proposals heard k)
-  keeps proposals heard v e zero c = beat_agrees 0 (heard 0 0) v (opened proposals) (simp length-map c.proposed) (c.admitted 0 0 (omega arith) (omega arith)) e
-  keeps proposals heard v e (suc k) c =
-      let before_it = keeps proposals heard v e k (record { proposed = c.proposed; few = omega (arith, c.few); admitted = λ j b lt l. c.admitted j b (omega arith) l }) in
-      beat_agrees (suc k) (heard (suc k) 0) v (ended p proposals heard k) before_it.count (c.admitted (suc k) 0 (omega arith) (omega arith)) (first_agreed v _ before_it)
+  module _ (proposals : List V) (heard : ℕ → ℕ → List ℕ) (k : ℕ) (c : Course p proposals heard (suc k)) where
+    abbrev after : ℕ → List (Slip V)
+    after j = ended p proposals heard j
 
-  -- what they agree on
-  agrees : (proposals : List V) (heard : ℕ → ℕ → List ℕ) → length proposals ≡ n → (v : V) × ((k : ℕ) → Course p proposals heard (suc k) → Agreed v (ended p proposals heard k))
-  agrees proposals heard long =
-      let there = first_there (opened proposals) (simp length-map long) in
-      (there.0, λ k c. keeps proposals heard there.0 there.1 k c)
+    -- the first of the proposals
+    chosen : (v : V) × (first before (received own (opened proposals) all) ≡ Some v)
+    chosen =
+        let stood = own_stands f law (opened proposals) (simp length-map c.proposed) all law.whole in first_there o (received own (opened proposals) all) stood.0 stood.1
 
-  -- all vote for the one setup in every phase, and have it as news
-  guards : (proposals : List V) (heard : ℕ → ℕ → List ℕ) (k : ℕ) → Course p proposals heard (suc k)
-      → Guards f (λ j. casts (ended p proposals heard j)) k (casts (ended p proposals heard k)) (news (ended p proposals heard k))
-  guards proposals heard k c = (loyal, backed)
-    where
-      at : (v : V) × ((j : ℕ) → Course p proposals heard (suc j) → Agreed v (ended p proposals heard j))
-      at = agrees proposals heard c.proposed
+    -- all agree on it in phase 0, and keep to it
+    keeps : (j : ℕ) → j ≤ k → Every n (Agreed chosen.0) (after j)
+    keeps j le =
+        from_then (λ (j : ℕ). Every n (Agreed chosen.0) (start p proposals heard j)) 0 (suc k)
+        (agrees 0 (heard 0 0) (opened proposals) chosen.0 (simp length-map c.proposed) (c.admitted 0 0 (omega arith) (omega arith)) chosen.1)
+        (λ j late early so. agrees j (heard j 0) (start p proposals heard j) chosen.0 so.count (c.admitted j 0 early (omega arith)) (stays chosen.0 (start p proposals heard j) so))
+        (suc j) (omega arith) (omega arith)
 
-      loyal : (r : ℕ) → r < k → Loyal f (casts (ended p proposals heard r)) (casts (ended p proposals heard k))
-      loyal r lt q i v w quorum voted member now =
-          let earlier = at.1 r (record { proposed = c.proposed; few = omega (arith, c.few); admitted = λ j b l m. c.admitted j b (omega arith) m }) in
-          agreed_field at.0 w _ (λ x. x.cast) (λ x. refl) (at.1 k c) i now ∙ sym (agreed_field at.0 v _ (λ x. x.cast) (λ x. refl) earlier i (voted i member))
+    -- no box votes for another, nor has another as news
+    votes_for : (j : ℕ) → j ≤ k → (i : ℕ) (w : V) → entry (casts (after j)) i ≡ Some w → w ≡ chosen.0
+    votes_for j le = every_field (keeps j le) (λ slip. slip.cast) (λ w. w ≡ chosen.0) (λ slip w a e. some_is (sym e ∙ a.votes))
 
-      backed : Backed f (casts (ended p proposals heard k)) (news (ended p proposals heard k))
-      backed i w e =
-          let is = agreed_field at.0 w _ (λ x. x.news) (λ x. refl) (at.1 k c) i e in
-          (all, law.whole, λ j member. agreed_entry at.0 _ (λ x. x.cast) (λ x. refl) (at.1 k c) j (has_below n all j (ones_lt n) member) ∙ ap {B = Option V} Some (sym is))
+    has_news : (i : ℕ) (w : V) → entry (news (after k)) i ≡ Some w → w ≡ chosen.0
+    has_news = every_field (keeps k (omega arith)) (λ slip. slip.news) (λ w. w ≡ chosen.0) (λ slip w a e. some_is (sym e ∙ a.decides))
 
-  -- after any phase all hold it
-  settled : (proposals : List V) (heard : ℕ → ℕ → List ℕ) (k : ℕ) → Course p proposals heard (suc k) → AllHold n (ended p proposals heard k)
-  settled proposals heard k c i lt = let at = agrees proposals heard c.proposed in (at.0, agreed_entry at.0 _ (λ x. x.held) (λ x. refl) (at.1 k c) i lt)
+    -- so the casts and news of each phase meet both guards
+    guards : Guards f (λ j. casts (after j)) k (casts (after k)) (news (after k))
+    guards = (loyal, backed)
+      where
+        loyal : (r : ℕ) → r < k → Loyal f (casts (after r)) (casts (after k))
+        loyal r lt q i v w quorum voted member now = votes_for k (omega arith) i w now ∙ sym (votes_for r (omega arith) i v (voted i member))
+
+        backed : Backed f (casts (after k)) (news (after k))
+        backed i w e =
+            (all, law.whole, every_sent (keeps k (omega arith)) (λ slip. slip.cast) w (λ slip a. a.votes ∙ ap {B = Option V} Some (sym (has_news i w e))) all (law.inside all law.whole))
+
+    -- after any phase all hold it
+    settled : AllHold n (after k)
+    settled i lt = (chosen.0, every_entry (keeps k (omega arith)) (λ slip. slip.held) chosen.0 (λ slip a. a.holds) i lt)
 
   pub unison_lawful : Lawful p
   unison_lawful = record {
     ruled = law;
     some_beats = omega arith;
     few_beats = omega arith;
-    inside = λ k b s h. subst (λ (x : ℕ). within n x ≡ true) (sym (eqb-true s all h)) (lt-ltb all (2 ^ n) (ones_lt n));
+    inside = λ k b s h. subst (λ (x : ℕ). within n x ≡ true) (sym (eqb-true s all h)) (law.inside all law.whole);
     admitted = λ k b s le lt h. h;
     whole = λ k b le lt. eq-eqb all all refl;
-    origin = λ k b i s slip table v due h. stood slip s table _ (took slip s table _ (first_own before s table) (first_is_first o (owns table) s) refl) v h.0 h.1;
-    alone = λ k b i s slip t u due same. ap (λ (r : Option V). agreed (unwrap_or r slip.own) slip) (alike s t u same);
+    origin = λ k b i s slip table v due. agreed_reads slip s table v;
+    alone = λ k b i s slip t u due. reads_heard s slip t u;
     follows = λ k b i s slip table due. refl;
     quiet_cast = λ k b i s slip table due lt. absurd (omega arith);
     quiet_news = λ k b i s slip table due lt. absurd (omega arith);

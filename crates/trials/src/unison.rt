@@ -1,27 +1,17 @@
 // Unison, a small procedure for trials of runs. It has one beat: a box goes on only if it hears all boxes, takes the first
 // setup that any of them stands for, votes for it, and has it as news.
-ghost use Rattle.std.specs.Prelude.{◌≡◌, Some};
+ghost use Rattle.std.specs.Prelude.{◌≡◌};
 ghost use Rattle.quorum.specs.Families.{present};
 ghost use Rattle.trials.specs.Unison.{unison};
 ghost use Rattle.trials.specs.UnisonLaws.{unison_lawful};
 
 use agreement::procedures::Procedure;
 use agreement::slips::Slip;
+use procedures::fields::Own;
 use quorum::rules::Rule;
 use quorum::sets::{BoxSet, all_below};
 use setup::orders::Setup;
-use setup::search::{Field, first};
-
-// What a box stands for.
-struct Own;
-
-impl<V: Setup> Field<Slip<V>, V> for Own {
-    ghost reads = { λ _ slip. Some slip.own };
-
-    fn read(&self, slip: &Slip<V>) -> Option<V> {
-        Some(slip.own)
-    }
-}
+use setup::search::first;
 
 #[derive(Clone, Copy, Drop)]
 pub(crate) struct Unison<R> {

@@ -5,7 +5,3 @@ use Rattle.trials.proofs.worked_examples.Goals as goal
 pub returns-clause-agree : goal.returns-clause-agree
 unfolding ones
 returns-clause-agree c = refl
-
-pub returns-clause-rows : goal.returns-clause-rows
-unfolding ones
-returns-clause-rows c = refl
