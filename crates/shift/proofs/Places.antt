@@ -6,7 +6,7 @@ use Rattle.std.specs.List.{position}
 use Rattle.std.specs.Option.{option_map}
 use Rattle.shift.specs.Parts.{parted}
 
-same_pair : (x y : List ℕ × List ℕ) → Some x ≡ Some y → x ≡ y
+pub same_pair : (x y : List ℕ × List ℕ) → Some x ≡ Some y → x ≡ y
 same_pair x y e = cc
 
 -- the text is the two parts, with a byte between that passes

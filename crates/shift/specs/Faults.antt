@@ -4,10 +4,11 @@ use Rattle.quorum.specs.declared.refusals.Fault.{Fault}
 use Rattle.quorum.specs.declared.refusals.Layer.TheVariants.{Text}
 use Rattle.quorum.specs.declared.refusals.Refusal.{Refusal}
 use Rattle.quorum.specs.declared.refusals.Refusal.TheVariants as refusal
-use Rattle.quorum.specs.declared.refusals.RuleFault.{RuleFault}
-use Rattle.quorum.specs.Refusals.{number, of_rule, word}
+use Rattle.quorum.specs.Refusals.{number, word}
+use Rattle.agreement.specs.declared.faults.RunFault.{RunFault}
+use Rattle.agreement.specs.Faults.{of_run}
 use Rattle.shift.specs.declared.faults.Cause.{Cause}
-use Rattle.shift.specs.declared.faults.Cause.TheVariants.{Long, Key, Value, Rule}
+use Rattle.shift.specs.declared.faults.Cause.TheVariants.{Long, Key, Value, Run}
 use Rattle.shift.specs.declared.faults.Spot.{Spot}
 use Rattle.shift.specs.declared.faults.TextFault.{TextFault}
 
@@ -19,13 +20,13 @@ abbrev pub reported_cause : Cause → Fault
 reported_cause Long = by_text refusal.Long
 reported_cause Key = by_text refusal.Key
 reported_cause Value = by_text refusal.Value
-reported_cause (Rule f) = of_rule f
+reported_cause (Run f) = of_run f
 
 abbrev pub of_text : TextFault → Fault
 of_text f = reported_cause f.cause
 
-abbrev pub at_rule : RuleFault → Spot → TextFault
-at_rule f s = record { cause = Rule f; spot = s }
+abbrev pub at_run : RunFault → Spot → TextFault
+at_run f s = record { cause = Run f; spot = s }
 
 -- the fault of line n as a whole
 abbrev pub at_line : Cause → ℕ → TextFault

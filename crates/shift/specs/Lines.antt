@@ -27,9 +27,13 @@ with_key key n (Some p) =
 abbrev pub due : List ℕ → ℕ → List ℕ → Result (List ℕ × List ℕ × Spot) TextFault
 due key n t = with_key key n (entry t)
 
--- a text of more than 32768 bytes is declined as a whole
+-- the most bytes that a text can have
+abbrev pub longest : ℕ
+longest = 32768
+
+-- a longer text is declined as a whole, before anything else
 abbrev pub unless_long : {X : Type 0} → List ℕ → Result X TextFault → Result X TextFault
-unless_long text r = cond (nat_le (length text) 32768) r (Err (at_line Long 1))
+unless_long text r = cond (nat_le (length text) longest) r (Err (at_line Long 1))
 
 -- the bytes that a call has read: the key, the equals sign, the value and the line end, or nothing
 abbrev pub span : Result Line TextFault → ℕ

@@ -1,6 +1,6 @@
 -- Numbers with commas between them, and the list that holds them. Assumes nothing.
-use Rattle.std.specs.Prelude.{ℕ, cond, List, [], ◌∷◌, ◌++◌, length, take, Some, None, codes, decimal, Option, nat_le, nat_lt}
-use Rattle.std.specs.List.{flat_map, slice_split}
+use Rattle.std.specs.Prelude.{ℕ, cond, List, [], ◌∷◌, ◌++◌, length, take, Some, None, Option, nat_le, nat_lt}
+use Rattle.std.specs.List.{slice_split}
 use Rattle.std.specs.Option.{option_map}
 use Rattle.shift.specs.declared.classes.Class.TheVariants.{Comma}
 use Rattle.shift.specs.declared.list.Numbers.{Numbers}
@@ -33,8 +33,3 @@ extended ns n = cond (nat_lt (length ns) 32) (Some (ns ++ n ∷ [])) None
 abbrev pub added : List ℕ → Option ℕ → Option (List ℕ)
 added ns None = None
 added ns (Some n) = extended ns n
-
--- the numbers in decimal digits, with commas between; a dash where there is none
-abbrev pub written : List ℕ → List ℕ
-written [] = codes "-"
-written (n ∷ ns) = decimal n ++ flat_map (λ m. codes "," ++ decimal m) ns

@@ -1,8 +1,9 @@
 // What the reading of a text declines with, and where in the text.
 ghost use Rattle.std.specs.Prelude.{◌≡◌, Some};
-ghost use Rattle.shift.specs.Faults.{at_line, at_rule, of_text, report};
+ghost use Rattle.shift.specs.Faults.{at_line, at_run, of_text, report};
 
-use quorum::refusals::{Fault, Layer, Refusal, RuleFault};
+use agreement::faults::RunFault;
+use quorum::refusals::{Fault, Layer, Refusal};
 use std::fmt;
 
 // A place in the text: lines and columns count from 1.
@@ -12,13 +13,13 @@ pub struct Spot {
     pub column: usize,
 }
 
-// Why a text is declined: by its own form, or by a layer below.
+// Why a text is declined: by its own form, or by the run that it asks for, inside whose fault is that of its rule.
 #[derive(Clone, Copy, Debug, PartialEq)]
 pub enum Cause {
     Long,
     Key,
     Value,
-    Rule(RuleFault),
+    Run(RunFault),
 }
 
 // A fault and where it was found.
@@ -45,7 +46,7 @@ impl From<TextFault> for Fault {
 
     fn from(found: TextFault) -> Fault {
         let refusal = match found.cause {
-            Cause::Rule(below) => return Fault::from(below),
+            Cause::Run(below) => return Fault::from(below),
             Cause::Long => Refusal::Long,
             Cause::Key => Refusal::Key,
             Cause::Value => Refusal::Value,
@@ -76,13 +77,13 @@ impl fmt::Display for TextFault {
     }
 }
 
-// A rule's fault, with the line and column that asked for the rule.
-impl From<(RuleFault, Spot)> for TextFault {
-    ghost from_gives = { λ f r. r ≡ at_rule f.0 f.1 };
+// A run's fault, or the rule's inside it, with the line and column that asked for it.
+impl From<(RunFault, Spot)> for TextFault {
+    ghost from_gives = { λ f r. r ≡ at_run f.0 f.1 };
 
-    fn from(found: (RuleFault, Spot)) -> TextFault {
+    fn from(found: (RunFault, Spot)) -> TextFault {
         TextFault {
-            cause: Cause::Rule(found.0),
+            cause: Cause::Run(found.0),
             spot: found.1,
         }
     }

@@ -6,6 +6,7 @@ use crate::list::Numbers;
 use crate::names::{ProcedureName, RuleName};
 use crate::numbers::number;
 use crate::reader::Reader;
+use agreement::faults::RunFault;
 use quorum::refusals::{Fault, Layer, RuleFault};
 use std::test::Fail;
 
@@ -175,7 +176,7 @@ fn lengths(rt: HostRuntime) {
 #[test]
 fn reports(rt: HostRuntime) {
     let spot = Spot { line: 1, column: 7 };
-    let below = TextFault::from((RuleFault::Roster, spot));
+    let below = TextFault::from((RunFault::from(RuleFault::Roster), spot));
     assert_eq!(rt; below.spot, spot);
     assert_eq!(rt; Fault::from(below).layer, Layer::Rule);
     assert_eq!(rt; Fault::from(below).refusal.number(), 1);
@@ -202,25 +203,11 @@ fn printed_faults(rt: HostRuntime) -> Result<(), Fail> {
         "fault=14\nlayer=text\nplace=0\nline=11\ncolumn=6"
     );
     let spot = Spot { line: 1, column: 7 };
-    let below = TextFault::from((RuleFault::Roster, spot));
+    let below = TextFault::from((RunFault::from(RuleFault::Roster), spot));
     let printed = below.to_string(rt.alloc())?;
     assert_eq!(rt;
         printed.as_str(),
         "fault=1\nlayer=rule\nplace=0\nline=1\ncolumn=7"
     );
-    Ok(())
-}
-
-#[test]
-fn printed_lists(rt: HostRuntime) -> Result<(), Fail> {
-    let none = Numbers::empty();
-    assert_eq!(rt; none.to_string(rt.alloc())?.as_str(), "-");
-    let table: [&str; 3] = ["7", "0,2", "4294967295,10,0"];
-    for text in table {
-        let Some(list) = Numbers::read(text.as_bytes()) else {
-            return Err(Fail::new("a list that is not read"));
-        };
-        assert_eq!(rt; list.to_string(rt.alloc())?.as_str(), text);
-    }
     Ok(())
 }

@@ -1,6 +1,6 @@
-// Numbers with commas between them: read into a list, and printed.
-ghost use Rattle.std.specs.Prelude.{◌≡◌, ℕ, ◌<◌, ◌≤◌, List, [], ◌∷◌, ◌++◌, length, Some};
-ghost use Rattle.shift.specs.Lists.{added, extended, listed, numbers, written};
+// Numbers with commas between them, read into a list.
+ghost use Rattle.std.specs.Prelude.{◌≡◌, ℕ, ◌<◌, ◌≤◌, List, [], ◌∷◌, ◌++◌, length};
+ghost use Rattle.shift.specs.Lists.{added, extended, listed, numbers};
 ghost use Rattle.shift.specs.Numbers.{number as number_in};
 ghost use Rattle.std.specs.Option.{option_map};
 
@@ -8,7 +8,6 @@ use crate::classes::Class;
 use crate::forms::Form;
 use crate::list::{Numbers, ROOM};
 use crate::numbers::number;
-use std::fmt;
 
 impl Numbers {
     // The list without a number.
@@ -80,22 +79,5 @@ impl Form for Numbers {
             list = list.with_piece(piece)?;
         }
         Some(list)
-    }
-}
-
-// The numbers with commas between, `-` for none.
-impl fmt::Display for Numbers {
-    ghost output = { λ list. Some (written (listed list)) };
-
-    #[tactic(auto, using(crate::proofs::Written::turns))]
-    fn fmt<W: fmt::Write>(&self, f: &mut fmt::Formatter<W>) -> fmt::Result {
-        let Some((first, more)) = self.as_slice().split_first() else {
-            return f.write_str("-");
-        };
-        write!(f, "{first}")?;
-        for n in more {
-            write!(f, ",{n}")?;
-        }
-        Ok(())
     }
 }
