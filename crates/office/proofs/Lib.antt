@@ -1,0 +1,11 @@
+pub mod Agreeing
+pub mod Asked
+pub mod Heads
+pub mod Histories
+pub mod Lines
+pub mod Numbering
+pub mod Offering
+pub mod Printing
+pub mod Setups
+pub mod Steps
+pub mod Written

@@ -1,0 +1,12 @@
+pub mod Agreed
+pub mod Answers
+pub mod Coming
+pub mod Events
+pub mod Heads
+pub mod Laws
+pub mod Named
+pub mod Printed
+pub mod Reading
+pub mod Shown
+pub mod Stages
+pub mod Working

@@ -1,0 +1,22 @@
+-- The moment of a run that is at work. Assumes nothing.
+use Rattle.std.specs.Prelude.{ℕ, List, take, Some, None, Ok, Err, Option, Result}
+use Rattle.quorum.specs.declared.refusals.Refusal.{Refusal}
+use Rattle.agreement.specs.declared.faults.RunFault.{RunFault}
+use Rattle.agreement.specs.declared.runs.Run.{Run}
+use Rattle.agreement.specs.declared.slips.Slip.{Slip}
+use Rattle.agreement.specs.Promise.{Moment}
+use Rattle.office.specs.declared.named_procedure.NamedProcedure.{NamedProcedure}
+use Rattle.office.specs.declared.work.Work.{Work}
+use Rattle.office.specs.Answers.{kind}
+
+-- the slips of the roster come first in the table
+abbrev pub at_work : Run ℕ NamedProcedure → ℕ → List (Slip ℕ) → Moment ℕ
+at_work run boxes table = record { clock = run.clock; table = take boxes table }
+
+abbrev pub moment : Work → Moment ℕ
+moment w = at_work w.run w.boxes w.table
+
+-- why a beat was declined, if it was
+abbrev pub declined_with : Result (Unit {0}) RunFault → Option Refusal
+declined_with (Ok u) = None
+declined_with (Err f) = Some (kind f)

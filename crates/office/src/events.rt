@@ -1,0 +1,47 @@
+// What is shown of a shift, one thing after another, and the lines that say it.
+ghost use Rattle.std.specs.Prelude.{Some};
+ghost use Rattle.office.specs.Events.{shown_as};
+ghost use Rattle.office.specs.Printed.{text};
+
+use crate::rows::Row;
+use quorum::refusals::Refusal;
+use shift::faults::TextFault;
+use std::fmt;
+
+// A phase that was finished: its number, and of each box what it voted for in it, and what it holds.
+#[derive(Debug, PartialEq, Drop)]
+pub struct Phase {
+    pub number: u32,
+    pub votes: Row,
+    pub held: Row,
+}
+
+#[derive(Debug, PartialEq, Drop)]
+pub enum Event {
+    // a beat that the run declined, and why
+    Declined(Refusal),
+    Phase(Phase),
+    // the fault that ends the reading
+    Fault(TextFault),
+}
+
+// The lines, without the last line end.
+impl fmt::Display for Event {
+    ghost output = { λ event. Some (text (shown_as event)) };
+
+    fn fmt<W: fmt::Write>(&self, f: &mut fmt::Formatter<W>) -> fmt::Result {
+        match self {
+            Event::Declined(refusal) => {
+                let number = refusal.number();
+                write!(f, "declined={number}")
+            },
+            Event::Phase(phase) => {
+                let number = phase.number;
+                let votes = &phase.votes;
+                let held = &phase.held;
+                write!(f, "phase={number}\nvotes={votes}\nheld={held}")
+            },
+            Event::Fault(fault) => write!(f, "{fault}"),
+        }
+    }
+}

@@ -1,0 +1,95 @@
+// The procedure that a text asks for, by its name, over the rule that it asks for.
+ghost use Rattle.std.specs.Prelude.{◌≡◌};
+ghost use Rattle.office.specs.Laws.{procedure_lawful};
+ghost use Rattle.office.specs.Named.{clear_of, family, meant, over};
+
+use crate::named_rule::NamedRule;
+use agreement::procedures::Procedure;
+use agreement::slips::Slip;
+use procedures::fast::Fast;
+use procedures::latest::Latest;
+use procedures::observing::Observing;
+use quorum::sets::BoxSet;
+use shift::names::ProcedureName;
+
+#[derive(Clone, Copy)]
+pub(crate) enum NamedProcedure {
+    Fast(Fast<NamedRule>),
+    Observing(Observing<NamedRule>),
+    Latest(Latest<NamedRule>),
+}
+
+impl NamedProcedure {
+    // The procedure of that name over the rule.
+    pub(crate) fn new(name: ProcedureName, rule: NamedRule) -> NamedProcedure
+        ensures { meant result ≡ over name (family rule) (clear_of rule) }
+    {
+        match name {
+            ProcedureName::Fast => NamedProcedure::Fast(Fast::new(rule)),
+            ProcedureName::Observing => NamedProcedure::Observing(Observing::new(rule)),
+            ProcedureName::Latest => NamedProcedure::Latest(Latest::new(rule)),
+        }
+    }
+}
+
+impl Procedure<u32> for NamedProcedure {
+    ghost meaning = { meant };
+
+    ghost lawful = { procedure_lawful };
+
+    fn boxes(&self) -> usize {
+        match self {
+            NamedProcedure::Fast(x) => Procedure::<u32>::boxes(x),
+            NamedProcedure::Observing(x) => Procedure::<u32>::boxes(x),
+            NamedProcedure::Latest(x) => Procedure::<u32>::boxes(x),
+        }
+    }
+
+    fn is_quorum(&self, set: BoxSet) -> bool {
+        match self {
+            NamedProcedure::Fast(x) => Procedure::<u32>::is_quorum(x, set),
+            NamedProcedure::Observing(x) => Procedure::<u32>::is_quorum(x, set),
+            NamedProcedure::Latest(x) => Procedure::<u32>::is_quorum(x, set),
+        }
+    }
+
+    fn beats(&self) -> u8 {
+        match self {
+            NamedProcedure::Fast(x) => Procedure::<u32>::beats(x),
+            NamedProcedure::Observing(x) => Procedure::<u32>::beats(x),
+            NamedProcedure::Latest(x) => Procedure::<u32>::beats(x),
+        }
+    }
+
+    fn admits(&self, phase: u16, beat: u8, set: BoxSet) -> bool {
+        match self {
+            NamedProcedure::Fast(x) => Procedure::<u32>::admits(x, phase, beat, set),
+            NamedProcedure::Observing(x) => Procedure::<u32>::admits(x, phase, beat, set),
+            NamedProcedure::Latest(x) => Procedure::<u32>::admits(x, phase, beat, set),
+        }
+    }
+
+    fn is_clear(&self, phase: u16, beat: u8, set: BoxSet) -> bool {
+        match self {
+            NamedProcedure::Fast(x) => Procedure::<u32>::is_clear(x, phase, beat, set),
+            NamedProcedure::Observing(x) => Procedure::<u32>::is_clear(x, phase, beat, set),
+            NamedProcedure::Latest(x) => Procedure::<u32>::is_clear(x, phase, beat, set),
+        }
+    }
+
+    fn next(
+        &self,
+        phase: u16,
+        beat: u8,
+        i: usize,
+        slip: &Slip<u32>,
+        heard: BoxSet,
+        table: &[Slip<u32>],
+    ) -> Slip<u32> {
+        match self {
+            NamedProcedure::Fast(x) => x.next(phase, beat, i, slip, heard, table),
+            NamedProcedure::Observing(x) => x.next(phase, beat, i, slip, heard, table),
+            NamedProcedure::Latest(x) => x.next(phase, beat, i, slip, heard, table),
+        }
+    }
+}
