@@ -1,8 +1,6 @@
 // A case: a shift's text, and the answer that is expected of it.
 ghost use Rattle.std.specs.Prelude.{◌≡◌, ◌++◌, ◌∷◌, [], IfOk, OnOk};
-ghost use Rattle.office.specs.Answers.{answer};
-ghost use Rattle.office.specs.Printed.{printed};
-ghost use Rattle.std.specs.Str.{bytes_eq};
+ghost use Rattle.cases.specs.Judging.{right};
 
 use crate::entries::Entry;
 use office::printouts::Printout;
@@ -60,7 +58,7 @@ impl Case {
 
     // Whether the answer is the one that is expected; where it is not, both are written.
     pub(crate) fn judge<W: Write>(&self, alloc: Global, out: &mut W) -> io::Result<bool>
-        ensures { IfOk result (λ right. right ≡ bytes_eq (printed (answer self.now.text.items)) self.now.expected.items) }
+        ensures { IfOk result (λ b. b ≡ right self.now) }
     {
         let answer = Printout::new(self.text.as_slice()).to_string(alloc)?;
         let right = answer.as_bytes() == self.expected.as_slice();

@@ -1,5 +1,6 @@
 // The cases of a file in turn, and how many there are.
-ghost use Rattle.std.specs.Prelude.{◌≡◌, ◌<◌, ◌≤◌, None, false, true};
+ghost use Rattle.std.specs.Prelude.{◌≡◌, ◌<◌, ◌≤◌, IfSome, None, OnOk, false, true};
+ghost use Rattle.cases.specs.Judging.{right as comes_out};
 
 use crate::case::Case;
 use crate::entries::{Entry, parse};
@@ -58,7 +59,9 @@ impl Tally {
 
     // Judges the case that has been read, if there is one.
     fn close<W: Write>(&mut self, alloc: Global, out: &mut W) -> io::Result<()>
-        ensures { self.new.current ≡ None }
+        ensures done { self.new.current ≡ None }
+        ensures kept { OnOk result (self.old.count.differing ≤ self.new.count.differing) }
+        ensures counts { OnOk result (IfSome self.old.current (λ c. comes_out c ≡ false → 0 < self.new.count.differing)) }
     {
         let Some(case) = self.current.take() else {
             return Ok(());

@@ -1,8 +1,9 @@
 -- What is shown as held agrees. Assumes nothing.
-use Rattle.std.proofs.Common.{◌≡◌, ℕ, zero, suc, ◌+◌, ◌<◌, ◌≤◌, Bool, true, false, cond, List, [], ◌∷◌, length, get_or, Some, None, Ok, Err, Option, Result, refl, sym, ap, subst, nat_le, ◌==◌, arith}
+use Rattle.std.proofs.Common.{◌≡◌, ℕ, zero, suc, ◌+◌, ◌<◌, ◌≤◌, Bool, true, false, cond, List, [], ◌∷◌, length, get_or, Some, None, Ok, Err, Option, Result, refl, sym, ap, ◌∙◌, subst, nat_le, ◌==◌, arith}
 use Rattle.quorum.proofs.Somes.{some_none}
 use Rattle.quorum.specs.declared.refusals.Refusal.{Refusal}
 use Rattle.setup.specs.Rows.{entry as entry_of}
+use Rattle.agreement.specs.declared.slips.Slip.{Slip}
 use Rattle.agreement.specs.Promise.{Holds, Moment}
 use Rattle.agreement.specs.Protocols.{Protocol}
 use Rattle.agreement.specs.Slips.{casts, held}
@@ -109,6 +110,11 @@ module _ (p : Protocol ℕ) where
 
 -- ---- the answer
 
+-- a row has an entry for each slip
+held_length : (table : List (Slip ℕ)) → length (held table) ≡ length table
+held_length [] = refl
+held_length (s ∷ ss) = ap suc (held_length ss)
+
 module _ (h : Begun) (asked : Asked h) where
   abbrev shows : List Shown
   shows = beats h.procedure (start h.proposals) h.line h.rest
@@ -131,6 +137,9 @@ module _ (h : Begun) (asked : Asked h) where
   beats_agree : Agreed h.proposals shows
   beats_agree = record {
     numbered = head_numbered h;
+    whole = λ s lt.
+        let m = row_moment at 0 (held_rows shows) rows s lt in
+        ap length m.2 ∙ held_length (at m.0).table ∙ history.boxes h.procedure asked.lawful h.proposals asked.proposed hs m.0;
     one = λ s t i j v w a b.
         let x = holds s i v a in
         let y = holds t j w b in
@@ -147,6 +156,7 @@ module _ (h : Begun) (asked : Asked h) where
 fault_agrees : (f : TextFault) (proposals : List ℕ) → Agreed proposals (fault f ∷ [])
 fault_agrees f proposals = record {
   numbered = λ s lt. absurd (omega arith);
+  whole = λ s lt. absurd (omega arith);
   one = λ s t i j v w h. absurd (never s i v h);
   stays = λ s t i v le lt h. absurd (never s i v h);
   proposed = λ s i v h. absurd (never s i v h);

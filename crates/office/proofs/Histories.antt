@@ -17,7 +17,7 @@ use Rattle.agreement.specs.Protocols.{Protocol}
 use Rattle.agreement.specs.Slips.{Stands, opened}
 use Rattle.agreement.proofs.Entries.{beaten_length}
 use Rattle.agreement.proofs.Promising.{promised}
-use Rattle.office.specs.Answers.{kind, outcome, outcome_by, refused, start}
+use Rattle.office.specs.Answers.{refusal_of, outcome, outcome_by, refused, start}
 
 -- ---- the moments and the calls
 
@@ -57,6 +57,10 @@ call p m (heard ∷ hs) (suc t) = call p (moved p m heard) hs t
 does_as : {X F : Type 0} (reason r : Option F) (done : X → Type 0) (kept : Type 0) (answer : Result X F) → reason ≡ r → Does r done kept answer → Does reason done kept answer
 does_as {X} {F} reason r done kept answer e = subst (λ (o : Option F). Does o done kept answer) (sym e)
 
+opened_length : (vs : List ℕ) → length (opened {V = ℕ} vs) ≡ length vs
+opened_length [] = refl
+opened_length (v ∷ vs) = ap suc (opened_length vs)
+
 module _ (p : Protocol ℕ) where
   -- the lowest box that must wait is one
   waiting : (m : Moment ℕ) (heard : List ℕ) → Waiting p m.clock.phase m.clock.beat heard (first_waiting p m heard)
@@ -71,7 +75,7 @@ module _ (p : Protocol ℕ) where
   leaves m heard size = go (reason p m heard) (ap (λ (k : ℕ). no_beat p m.clock k k heard (first_waiting p m heard)) size)
     where
       go : (r : Option RunFault) → no_beat p m.clock (length m.table) (length m.table) heard (first_waiting p m heard) ≡ r
-          → Leaves p m (call_by r m heard) (moved_by (option_map kind r) p m heard)
+          → Leaves p m (call_by r m heard) (moved_by (option_map refusal_of r) p m heard)
       go None is = (first_waiting p m heard, waiting m heard, does_as _ None _ _ (Ok tt) is (refl, refl, refl))
       go (Some f) is = (first_waiting p m heard, waiting m heard, does_as _ (Some f) _ _ (Err f) is (refl, (refl, refl, refl)))
 
@@ -89,6 +93,11 @@ module _ (p : Protocol ℕ) where
   all_leave m [] (suc t) size = all_leave (moved p m []) [] t (moved_length m [] ∙ size)
   all_leave m (heard ∷ hs) (suc t) size = all_leave (moved p m heard) hs t (moved_length m heard ∙ size)
 
+  after_length : (m : Moment ℕ) (hs : List (List ℕ)) (t : ℕ) → length (after p m hs t).table ≡ length m.table
+  after_length m hs zero = refl
+  after_length m [] (suc t) = after_length (moved p m []) [] t ∙ moved_length m []
+  after_length m (heard ∷ hs) (suc t) = after_length (moved p m heard) hs t ∙ moved_length m heard
+
   -- ---- the promise
 
   module _ (law : Lawful p) (proposals : List ℕ) (proposed : length proposals ≡ p.rule.boxes) (hs : List (List ℕ)) where
@@ -104,10 +113,6 @@ module _ (p : Protocol ℕ) where
       goes = λ t lt. all_leave (start proposals) hs t size;
     }
       where
-        opened_length : (vs : List ℕ) → length (opened {V = ℕ} vs) ≡ length vs
-        opened_length [] = refl
-        opened_length (v ∷ vs) = ap suc (opened_length vs)
-
         size : length (opened proposals) ≡ p.rule.boxes
         size = opened_length proposals ∙ proposed
 
@@ -131,3 +136,7 @@ module _ (p : Protocol ℕ) where
 
     pub valid : (s i v : ℕ) → Holds (at s) i v → Stands v (map Some proposals)
     valid s i v = (promise s).validity s i v (omega arith)
+
+    -- every moment has a slip for each box
+    pub boxes : (s : ℕ) → length (at s).table ≡ length proposals
+    boxes s = after_length (start proposals) hs s ∙ opened_length proposals

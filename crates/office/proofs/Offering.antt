@@ -12,7 +12,7 @@ use Rattle.agreement.specs.declared.slips.Slip.{Slip}
 use Rattle.agreement.specs.Calls.{Beats, Waiting, advanced, closed, estranged, no_beat, other_lengths, waits}
 use Rattle.agreement.specs.Promise.{Moment}
 use Rattle.agreement.specs.Protocols.{Protocol, beaten}
-use Rattle.office.specs.Answers.{following, kind, outcome, outcome_by, refused}
+use Rattle.office.specs.Answers.{following, refusal_of, outcome, outcome_by, refused}
 use Rattle.office.specs.Working.{declined_with}
 
 -- the first items of a list, where so many stand before others
@@ -20,7 +20,7 @@ pub take_first : {A : Type 0} (n : ℕ) (xs ys : List A) → length xs ≡ n →
 take_first n xs ys e = ap (λ k. take k (xs ++ ys)) (sym e) ∙ take-append_seam xs ys
 
 -- where two reasons are shown alike, so are the two after one check more
-alike : (first a b : Option RunFault) → option_map kind a ≡ option_map kind b → option_map kind (either first a) ≡ option_map kind (either first b)
+alike : (first a b : Option RunFault) → option_map refusal_of a ≡ option_map refusal_of b → option_map refusal_of (either first a) ≡ option_map refusal_of (either first b)
 alike None a b e = e
 alike (Some f) a b e = refl
 
@@ -32,14 +32,14 @@ module _ (p : Protocol ℕ) (m : Moment ℕ) (heard : List ℕ) where
   test = waits p m.clock.phase m.clock.beat heard
 
   -- any box that must wait is shown as the lowest one is
-  one_waits : (a b : Option ℕ) → Waiting p m.clock.phase m.clock.beat heard a → IsLowest test n b → option_map kind (option_map Wait a) ≡ option_map kind (option_map Wait b)
+  one_waits : (a b : Option ℕ) → Waiting p m.clock.phase m.clock.beat heard a → IsLowest test n b → option_map refusal_of (option_map Wait a) ≡ option_map refusal_of (option_map Wait b)
   one_waits None None all is = refl
   one_waits (Some i) (Some j) here is = refl
   one_waits None (Some j) all is = absurd (true≢false (sym is.1 ∙ all j is.0))
   one_waits (Some i) None here is = absurd (true≢false (sym here.1 ∙ is i here.0))
 
   -- so the run's reason to decline is shown as the definition says
-  reason : (waiting : Option ℕ) → Waiting p m.clock.phase m.clock.beat heard waiting → option_map kind (no_beat p m.clock n n heard waiting) ≡ refused p m heard
+  reason : (waiting : Option ℕ) → Waiting p m.clock.phase m.clock.beat heard waiting → option_map refusal_of (no_beat p m.clock n n heard waiting) ≡ refused p m heard
   reason waiting w =
       let strangers = option_map Stranger (lowest (estranged n heard) n) in
       let open_run = unless (not (closed m.clock)) Closed in
@@ -64,11 +64,11 @@ module _ (p : Protocol ℕ) (m : Moment ℕ) (heard : List ℕ) where
     by : (waiting : Option ℕ) → Waiting p m.clock.phase m.clock.beat heard waiting → (r : Option RunFault) (answer : Result (Unit {0}) RunFault) → no_beat p m.clock n n heard waiting ≡ r
         → Does r (λ _. Done) Kept answer → Comes answer
     by waiting w None (Ok u) e d =
-        let shown : None ≡ refused p m heard = ap (option_map kind) (sym e) ∙ reason waiting w in
+        let shown : None ≡ refused p m heard = ap (option_map refusal_of) (sym e) ∙ reason waiting w in
         let is : next ≡ following p m heard = rw (d.0, d.1) in
         (shown, is ∙ ap (λ r. (outcome_by r p m heard).1) shown)
     by waiting w (Some g) (Err f) e d =
-        let shown : Some (kind f) ≡ refused p m heard = ap (λ g. Some (kind g)) d.0 ∙ ap (option_map kind) (sym e) ∙ reason waiting w in
+        let shown : Some (refusal_of f) ≡ refused p m heard = ap (λ g. Some (refusal_of g)) d.0 ∙ ap (option_map refusal_of) (sym e) ∙ reason waiting w in
         let is : next ≡ m = rw (d.1.0, d.1.1) in
         (shown, is ∙ ap (λ r. (outcome_by r p m heard).1) shown)
     by waiting w None (Err f) e d = absurd d

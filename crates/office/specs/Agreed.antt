@@ -24,10 +24,11 @@ held_rows es = map (λ p. p.1) (phases es)
 abbrev pub Shows : List Shown → ℕ → ℕ → ℕ → Type 0
 Shows es s i v = entry (slice_index_or (held_rows es) s []) i ≡ Some v
 
--- The phases that are shown are numbered in order from 0. No two setups that are shown in them as held differ, whichever the boxes and phases; a box that is once shown
+-- The phases that are shown are numbered in order from 0, and each shows every box. No two setups that are shown in them as held differ, whichever the boxes and phases; a box that is once shown
 -- with one is shown with it in every later phase; and each was proposed.
 pub record Agreed (proposals : List ℕ) (es : List Shown) : Type 0 where
   pub numbered : (s : ℕ) → s < length (phase_numbers es) → slice_index_or (phase_numbers es) s 0 ≡ s
+  pub whole : (s : ℕ) → s < length (held_rows es) → length (slice_index_or (held_rows es) s []) ≡ length proposals
   pub one : (s t i j v w : ℕ) → Shows es s i v → Shows es t j w → v ≡ w
   pub stays : (s t i v : ℕ) → s ≤ t → t < length (held_rows es) → Shows es s i v → Shows es t i v
   pub proposed : (s i v : ℕ) → Shows es s i v → Stands v (map Some proposals)

@@ -23,13 +23,13 @@ use Rattle.office.specs.Shown.Shown.{declined, fault, phase}
 
 -- ---- one beat
 
--- what a run's fault is, whatever place it names
-abbrev pub kind : RunFault → Refusal
-kind f = (of_run f).refusal
+-- the refusal that a run's fault is, whatever place it names
+abbrev pub refusal_of : RunFault → Refusal
+refusal_of f = (of_run f).refusal
 
 -- why a run at this moment declines a beat with these heard sets
 abbrev pub refused : Protocol ℕ → Moment ℕ → List ℕ → Option Refusal
-refused p m heard = option_map kind (no_beat p m.clock p.rule.boxes p.rule.boxes heard (lowest (waits p m.clock.phase m.clock.beat heard) p.rule.boxes))
+refused p m heard = option_map refusal_of (no_beat p m.clock p.rule.boxes p.rule.boxes heard (lowest (waits p m.clock.phase m.clock.beat heard) p.rule.boxes))
 
 -- the moment after a beat that is taken
 abbrev pub following : Protocol ℕ → Moment ℕ → List ℕ → Moment ℕ

@@ -22,7 +22,7 @@ rule_by rule.Majority n = majority n
 rule_by rule.Thirds n = sizes n (thirds n)
 rule_by rule.Anchored n = anchored 0 (majority n)
 
--- the sets that are clear over it: under thirds two thirds, else all present
+-- the sets that are clear over it: under thirds more than two thirds of the boxes, else all boxes
 abbrev pub clear_by : RuleName → ℕ → ℕ → Bool
 clear_by rule.Majority n = present (rule_by rule.Majority n)
 clear_by rule.Thirds n = at_least n (thirds n)

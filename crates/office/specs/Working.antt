@@ -7,7 +7,7 @@ use Rattle.agreement.specs.declared.slips.Slip.{Slip}
 use Rattle.agreement.specs.Promise.{Moment}
 use Rattle.office.specs.declared.named_procedure.NamedProcedure.{NamedProcedure}
 use Rattle.office.specs.declared.work.Work.{Work}
-use Rattle.office.specs.Answers.{kind}
+use Rattle.office.specs.Answers.{refusal_of}
 
 -- the slips of the roster come first in the table
 abbrev pub at_work : Run ℕ NamedProcedure → ℕ → List (Slip ℕ) → Moment ℕ
@@ -19,4 +19,4 @@ moment w = at_work w.run w.boxes w.table
 -- why a beat was declined, if it was
 abbrev pub declined_with : Result (Unit {0}) RunFault → Option Refusal
 declined_with (Ok u) = None
-declined_with (Err f) = Some (kind f)
+declined_with (Err f) = Some (refusal_of f)

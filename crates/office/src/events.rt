@@ -1,7 +1,7 @@
 // What is shown of a shift, one thing after another, and the lines that say it.
 ghost use Rattle.std.specs.Prelude.{Some};
 ghost use Rattle.office.specs.Events.{shown_as};
-ghost use Rattle.office.specs.Printed.{text};
+ghost use Rattle.office.specs.Printed.{lines_of};
 
 use crate::rows::Row;
 use quorum::refusals::Refusal;
@@ -27,7 +27,7 @@ pub enum Event {
 
 // The lines, without the last line end.
 impl fmt::Display for Event {
-    ghost output = { λ event. Some (text (shown_as event)) };
+    ghost output = { λ event. Some (lines_of (shown_as event)) };
 
     fn fmt<W: fmt::Write>(&self, f: &mut fmt::Formatter<W>) -> fmt::Result {
         match self {

@@ -1,6 +1,6 @@
 // Rows of setups, one entry for each box, as they are shown.
 ghost use Rattle.std.specs.Prelude.{◌≡◌, ◌≤◌, length, map, Some};
-ghost use Rattle.office.specs.Printed.{entry_text, row_text};
+ghost use Rattle.office.specs.Printed.{cell_text, row_text};
 
 use agreement::slips::Slip;
 use arrayvec::ArrayVec;
@@ -59,12 +59,12 @@ impl Row {
     }
 }
 
-// One entry: a dash where there is none.
+// One entry as it is printed: a dash where there is none.
 #[derive(Clone, Copy)]
-struct Entry(Option<u32>);
+struct Cell(Option<u32>);
 
-impl fmt::Display for Entry {
-    ghost output = { λ entry. Some (entry_text entry.0) };
+impl fmt::Display for Cell {
+    ghost output = { λ cell. Some (cell_text cell.0) };
 
     fn fmt<W: fmt::Write>(&self, f: &mut fmt::Formatter<W>) -> fmt::Result {
         match self.0 {
@@ -83,11 +83,11 @@ impl fmt::Display for Row {
         let Some((first, more)) = self.setups.as_slice().split_first() else {
             return Ok(());
         };
-        let first = Entry(*first);
+        let first = Cell(*first);
         write!(f, "{first}")?;
         for entry in more {
-            let entry = Entry(*entry);
-            write!(f, ",{entry}")?;
+            let cell = Cell(*entry);
+            write!(f, ",{cell}")?;
         }
         Ok(())
     }

@@ -1,4 +1,4 @@
--- What the answer of a call that may decline says, by what is read off its value. Assumes nothing.
+-- An answer with its value read by a function and its fault as it is; and one call after another. Assumes nothing.
 use Rattle.std.specs.Prelude.{Ok, Err, Result}
 
 abbrev pub told : {X Y E : Type 0} → (X → Y) → Result X E → Result Y E

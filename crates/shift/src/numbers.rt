@@ -1,4 +1,4 @@
-// Numbers in decimal digits, alone and with commas between.
+// A number in decimal digits.
 ghost use Rattle.std.specs.Prelude.{◌≡◌, ℕ, if◌then◌else◌, None};
 ghost use Rattle.shift.specs.Classes.{digit};
 ghost use Rattle.shift.specs.Numbers.{appended, fitting, led, number};
