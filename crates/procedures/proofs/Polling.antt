@@ -1,47 +1,50 @@
 -- The search for a setup that a quorum backs: what is tried, turn by turn, and what it comes to. Assumes nothing.
-use Rattle.std.proofs.Common.{◌≡◌, ℕ, ◌+◌, ◌<◌, ◌≤◌, Bool, true, false, List, map, length, get_or, Some, None, Option, bit_or, sym, ap, ◌∙◌, subst, arith}
-use Rattle.std.proofs.lemmas.List.{length-map}
+use Rattle.std.proofs.Common.{◌≡◌, ℕ, ◌<◌, ◌≤◌, ◌⊎◌, Bool, true, false, List, length, Some, None, Option, bit_or, sym, ap, ◌∙◌, inl, inr}
+use Rattle.std.proofs.lemmas.Bool.{cases_lt}
+use Rattle.std.proofs.lemmas.List.{get_or_past}
 use Rattle.quorum.specs.Rules.{Family}
+use Rattle.quorum.specs.Walking.{Lowest, without}
 use Rattle.quorum.proofs.Lowest.{lowest_is, lowest_none}
+use Rattle.quorum.proofs.Somes.{some_none}
 use Rattle.setup.specs.Orders.{Ordered}
 use Rattle.setup.specs.Rows.{among, boxes_with, entry}
-use Rattle.setup.proofs.Gathering.{Gathered, length_among, turns_done}
 use Rattle.procedures.specs.Received.{backer, elects}
-use Rattle.procedures.proofs.Trying.{Seen, box_skipped, fresh_sent, setup_tried, untried}
+use Rattle.procedures.proofs.Trying.{Seen, all_seen, box_skipped, fresh_sent, nothing_seen, setup_tried, untried}
 
-module _ {V : Type 0} (f : Family) (before : V → V → Bool) (others : ℕ) where
+-- where something stands, there is an entry
+stands_within : {V : Type 0} (row : List (Option V)) (i : ℕ) (v : V) → entry row i ≡ Some v → i < length row
+stands_within {V} row i v e = go (cases_lt i (length row))
+  where
+    go : (i < length row) ⊎ (length row ≤ i) → i < length row
+    go (inl lt) = lt
+    go (inr le) = absurd (some_none (sym e ∙ get_or_past row i None le))
+
+module _ {V : Type 0} (f : Family) (before : V → V → Bool) (others : ℕ) (row : List (Option V)) (heard : ℕ) where
+  abbrev r : List (Option V)
+  r = among row heard 0
+
   -- no quorum backs what box m sent
-  abbrev pub Lacks : List (Option V) → ℕ → Type 0
-  Lacks row m = elects f before others row (entry row m) ≡ false
+  abbrev pub Lacks : ℕ → Type 0
+  Lacks m = elects f before others r (entry r m) ≡ false
 
-  module _ (o : Ordered before) {T : Type 0} (reads : T → Option V) (row : List T) (heard i tried : ℕ) (x : T) (lt : i < length row) (at : x ≡ get_or row i x) where
-    abbrev r : List (Option V)
-    r = among (map reads row) heard 0
+  pub none_tried : Seen Lacks heard heard 0
+  none_tried = nothing_seen row heard Lacks (λ m none. ap (elects f before others r) none)
 
-    abbrev fresh : Option V
-    fresh = untried heard tried i (reads x)
+  module _ (left t i tried : ℕ) (low : Lowest left i × (t ≡ without left i)) (y : Option V) (fresh : y ≡ untried tried i (entry row i)) where
+    pub turn_skips : y ≡ None → Seen Lacks heard left tried → Seen Lacks heard t tried
+    turn_skips none seen = box_skipped row heard left t i tried low Lacks y fresh none (ap (elects f before others r)) seen
 
-    pub turn_skips : (q : ℕ) → None ≡ fresh → q ≡ tried → Seen (Lacks r) i tried → Seen (Lacks r) (i + 1) q
-    turn_skips q e keeps = box_skipped reads row heard i tried x lt at (Lacks r) q e keeps (ap (elects f before others r))
+    module _ (o : Ordered before) (v : V) (senders : ℕ) (is : y ≡ Some v) (found : senders ≡ boxes_with before v r) where
+      pub turn_tries : (q : ℕ) → false ≡ f.quorum (bit_or senders others) → q ≡ bit_or tried senders → Seen Lacks heard left tried → Seen Lacks heard t q
+      turn_tries q lacking joins seen =
+          setup_tried row heard left t i tried low o Lacks Lacks y v senders q fresh is found joins (λ m old. old)
+          (λ m sent. ap (elects f before others r) sent ∙ ap (λ (s : ℕ). f.quorum (bit_or s others)) (sym found) ∙ sym lacking) seen
 
-    pub turn_tries : (v : V) (j senders q : ℕ) → Some v ≡ fresh → length row ≤ j → Gathered before v (map reads row) heard j senders → false ≡ f.quorum (bit_or senders others) → q ≡ bit_or tried senders
-        → Seen (Lacks r) i tried → Seen (Lacks r) (i + 1) q
-    turn_tries v j senders q e end g lacking joins =
-        setup_tried reads row heard i tried x lt at o (Lacks r) (Lacks r) v senders q e found joins (λ m old. old)
-        (λ m sent. ap (elects f before others r) sent ∙ ap (λ (s : ℕ). f.quorum (bit_or s others)) (sym found) ∙ sym lacking)
-      where
-        found : senders ≡ boxes_with before v r
-        found = turns_done before v reads row heard j senders end g
+      pub found_there : true ≡ f.quorum (bit_or senders others) → Seen Lacks heard left tried → Some i ≡ backer f before others r
+      found_there backs seen =
+          let sent = fresh_sent row heard left t i tried low seen.part y v fresh is in
+          sym (lowest_is (λ m. elects f before others r (entry r m)) (length r) i (stands_within r i v sent)
+          (ap (elects f before others r) sent ∙ ap (λ (s : ℕ). f.quorum (bit_or s others)) (sym found) ∙ sym backs) (λ m lt. seen.passed m (low.0.below m lt)))
 
-    pub found_there : (v : V) (j senders : ℕ) → Some v ≡ fresh → length row ≤ j → Gathered before v (map reads row) heard j senders → true ≡ f.quorum (bit_or senders others)
-        → Seen (Lacks r) i tried → Some i ≡ backer f before others r
-    found_there v j senders e end g backs t =
-        sym (lowest_is (λ m. elects f before others r (entry r m)) (length r) i (subst (λ (n : ℕ). i < n) (sym (length_among (map reads row) heard 0 ∙ length-map row reads)) lt)
-        (ap (elects f before others r) (fresh_sent reads row heard i tried x lt at v e) ∙ ap (λ (s : ℕ). f.quorum (bit_or s others)) (sym (turns_done before v reads row heard j senders end g)) ∙ sym backs) t.below)
-
-  pub found_none : {T : Type 0} (reads : T → Option V) (row : List T) (heard i tried : ℕ) → length row ≤ i → Seen (Lacks (among (map reads row) heard 0)) i tried
-      → None ≡ backer f before others (among (map reads row) heard 0)
-  found_none reads row heard i tried end t =
-      let r = among (map reads row) heard 0 in
-      let long = length_among (map reads row) heard 0 ∙ length-map row reads in
-      sym (lowest_none (λ m. elects f before others r (entry r m)) (length r) (λ m lt. t.below m (omega (arith, long))))
+  pub found_none : (left tried : ℕ) → left ≡ 0 → Seen Lacks heard left tried → None ≡ backer f before others r
+  found_none left tried none seen = sym (lowest_none (λ m. elects f before others r (entry r m)) (length r) (λ m lt. all_seen row heard Lacks left tried none seen m))

@@ -1,4 +1,5 @@
 pub mod Fast
+pub mod Finding
 pub mod Latest
 pub mod Licence
 pub mod Observing

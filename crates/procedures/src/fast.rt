@@ -44,6 +44,7 @@ impl<R: ClearView> Fast<R> {
     }
 
     // It casts what it stood for, what a quorum sent is news, and where it heard a clear set it stands for the favourite.
+    #[inline(always)]
     fn poll<V: Setup>(&self, slip: &Slip<V>, heard: BoxSet, table: &[Slip<V>]) -> Slip<V>
         ensures { result ≡ polled (R.Rule.family self.now.rule) V.Setup.before (R.ClearView.clear self.now.rule) heard (received own table.now heard) slip.now }
     {

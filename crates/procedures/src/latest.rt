@@ -70,6 +70,7 @@ fn vote<V: Setup, R: Rule>(rule: &R, slip: &Slip<V>, heard: BoxSet, table: &[Sli
 }
 
 // Beat by beat; in beat 1 it is ready to vote for what a quorum picked.
+#[inline(always)]
 fn turn<V: Setup, R: Rule>(
     rule: &R,
     phase: u16,

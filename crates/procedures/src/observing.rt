@@ -27,6 +27,7 @@ impl<R: Rule> Observing<R> {
 }
 
 // Beat 0: the box stands for the smallest setup received, and is ready to vote for it if all sent it.
+#[inline(always)]
 fn ready<V: Setup>(slip: &Slip<V>, heard: BoxSet, table: &[Slip<V>]) -> Slip<V>
     ensures { result ≡ readied V.Setup.before heard (received own table.now heard) slip.now }
 {
@@ -38,6 +39,7 @@ fn ready<V: Setup>(slip: &Slip<V>, heard: BoxSet, table: &[Slip<V>]) -> Slip<V>
 }
 
 // Beat 1: it casts what it was ready to vote for, what all said is news, and it stands for what was said.
+#[inline(always)]
 fn observe<V: Setup>(slip: &Slip<V>, heard: BoxSet, table: &[Slip<V>]) -> Slip<V>
     ensures { result ≡ observed V.Setup.before heard (received say table.now heard) (received own table.now heard) slip.now }
 {
@@ -50,6 +52,7 @@ fn observe<V: Setup>(slip: &Slip<V>, heard: BoxSet, table: &[Slip<V>]) -> Slip<V
 }
 
 // Beat by beat.
+#[inline(always)]
 fn turn<V: Setup>(beat: u8, slip: &Slip<V>, heard: BoxSet, table: &[Slip<V>]) -> Slip<V>
     ensures { result ≡ next V.Setup.before beat heard table.now slip.now }
 {

@@ -1,14 +1,16 @@
 // What a box makes of what it received: the smallest setup, the one that a quorum backs, the one that all sent, and the one that most sent.
-ghost use Rattle.std.specs.Prelude.{◌≡◌, ◌&&◌, ◌<◌, length, map, not, if◌then◌else◌, None, IfSome};
+ghost use Rattle.std.specs.Prelude.{◌≡◌, map, if◌then◌else◌, None};
 ghost use Rattle.quorum.specs.Sets.{has};
-ghost use Rattle.setup.specs.Rows.{IsFirst, among};
+ghost use Rattle.setup.specs.Rows.{IsFirst, among, entry};
+ghost use Rattle.procedures.specs.Finding.{SentByOne};
 ghost use Rattle.procedures.specs.Received.{IsBacked, IsMostOften, IsUnanimous, backed as backed_by, backer as backer_of, most_often as most_often_of, smallest as smallest_of, unanimous as unanimous_in};
 
+use quorum::members::each;
 use quorum::rules::Rule;
-use quorum::sets::{BoxSet, contains, size};
-use setup::having::{boxes_with, joined};
+use quorum::sets::{BoxSet, added, contains, size};
+use setup::having::{all_have, boxes_with, is};
 use setup::orders::Setup;
-use setup::search::{Field, first, sooner};
+use setup::search::{Field, first, read_at, sooner};
 
 // The smallest of what the boxes sent that were heard.
 pub fn smallest<T, V: Setup, F: Field<T, V>>(field: &F, row: &[T], heard: BoxSet) -> Option<V>
@@ -18,20 +20,14 @@ pub fn smallest<T, V: Setup, F: Field<T, V>>(field: &F, row: &[T], heard: BoxSet
     first(field, row, heard)
 }
 
-// What box `i` sent, if it was heard and is not among the boxes whose setup was tried.
-fn untried<T, V: Setup, F: Field<T, V>>(
-    field: &F,
-    item: &T,
-    heard: BoxSet,
-    tried: BoxSet,
-    i: usize,
-) -> Option<V>
-    ensures { result ≡ (if has heard i && not (has tried i) then F.Field.reads field.now item.now else None) }
+// What box `i` sent, if it is not among the boxes whose setup was tried.
+fn untried<T, V: Setup, F: Field<T, V>>(field: &F, row: &[T], tried: BoxSet, i: usize) -> Option<V>
+    ensures { result ≡ (if has tried i then None else entry (map (F.Field.reads field.now) row.now) i) }
 {
-    if contains(heard, i) && !contains(tried, i) {
-        field.read(item)
-    } else {
+    if contains(tried, i) {
         None
+    } else {
+        read_at(field, row, i)
     }
 }
 
@@ -43,16 +39,17 @@ fn backer<R: Rule, T, V: Setup, F: Field<T, V>>(
     heard: BoxSet,
     others: BoxSet,
 ) -> Option<usize>
-    ensures inside { IfSome result (λ i. i < length row.now) }
-    ensures value { result ≡ backer_of (R.Rule.family rule.now) V.Setup.before others (among (map (F.Field.reads field.now) row.now) heard 0) }
+    ensures { result ≡ backer_of (R.Rule.family rule.now) V.Setup.before others (among (map (F.Field.reads field.now) row.now) heard 0) }
 {
     let mut tried = 0;
     'search: {
-        for (i, item) in row.iter().enumerate() {
-            if let Some(v) = untried(field, item, heard, tried, i) {
+        for i in each(heard) {
+            if let Some(v) = untried(field, row, tried, i) {
                 let mut senders = 0;
-                for (j, other) in row.iter().enumerate() {
-                    senders = joined(senders, heard, j, field.read(other), v);
+                for j in each(heard) {
+                    if is(v, read_at(field, row, j)) {
+                        senders = added(senders, j);
+                    }
                 }
                 if rule.is_quorum(senders | others) {
                     break 'search Some(i);
@@ -76,16 +73,22 @@ pub fn backed<R: Rule, T, V: Setup, F: Field<T, V>>(
     ensures value { result ≡ backed_by (R.Rule.family rule.now) V.Setup.before others (among (map (F.Field.reads field.now) row.now) heard 0) }
     ensures law { IsBacked (R.Rule.family rule.now) V.Setup.before others (among (map (F.Field.reads field.now) row.now) heard 0) result }
 {
-    let i = backer(rule, field, row, heard, others)?;
-    field.read(&row[i])
+    read_at(field, row, backer(rule, field, row, heard, others)?)
 }
 
-// The setup that all the boxes sent that were heard.
+// What the lowest box sent that was heard.
+fn lowest_sent<T, V: Setup, F: Field<T, V>>(field: &F, row: &[T], heard: BoxSet) -> Option<V>
+    ensures { SentByOne heard (map (F.Field.reads field.now) row.now) result }
+{
+    read_at(field, row, each(heard).next()?)
+}
+
+// The setup that all the boxes sent that were heard: what the lowest of them sent, if the others sent it too.
 pub fn unanimous<T, V: Setup, F: Field<T, V>>(field: &F, row: &[T], heard: BoxSet) -> Option<V>
     ensures value { result ≡ unanimous_in V.Setup.before heard (among (map (F.Field.reads field.now) row.now) heard 0) }
     ensures law { IsUnanimous V.Setup.before heard (among (map (F.Field.reads field.now) row.now) heard 0) result }
 {
-    smallest(field, row, heard).filter(|v| boxes_with(field, row, heard, *v) == heard)
+    lowest_sent(field, row, heard).filter(|v| all_have(field, row, heard, *v))
 }
 
 // The setup that most of them sent, and of several such the smallest. Each setup is counted once, whichever of its senders comes first.
@@ -96,8 +99,8 @@ pub fn most_often<T, V: Setup, F: Field<T, V>>(field: &F, row: &[T], heard: BoxS
     let mut counted = 0;
     // a setup with how many sent it: two such pairs compare as dated votes do, the greater number coming first
     let mut most: Option<(u16, V)> = None;
-    for (i, item) in row.iter().enumerate() {
-        if let Some(v) = untried(field, item, heard, counted, i) {
+    for i in each(heard) {
+        if let Some(v) = untried(field, row, counted, i) {
             let senders = boxes_with(field, row, heard, v);
             most = sooner(most, Some((size(senders) as u16, v)));
             counted |= senders;

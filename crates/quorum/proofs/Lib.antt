@@ -4,3 +4,4 @@ pub mod Lowest
 pub mod Refused
 pub mod Somes
 pub mod Tallies
+pub mod Walks

@@ -8,3 +8,4 @@ pub mod Laws
 pub mod Counts
 pub mod Members
 pub mod Fitting
+pub mod Walking

@@ -3,6 +3,7 @@
 
 pub mod anchored;
 pub mod majority;
+pub mod members;
 pub mod present;
 pub mod refusals;
 pub mod rosters;

@@ -1,3 +1,4 @@
 pub mod Gathering
 pub mod Sameness
 pub mod Searching
+pub mod Walked

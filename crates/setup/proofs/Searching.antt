@@ -1,11 +1,10 @@
--- What the search gives: the fold of its loop, and that it is the first. Assumes nothing.
-use Rattle.std.proofs.Common.{◌≡◌, ℕ, zero, suc, ◌+◌, ◌<◌, ◌≤◌, Bool, true, false, cond, ◌⊎◌, List, [], ◌∷◌, map, length, get_or, Some, None, Option, sym, refl, ap, ◌∙◌, subst, inl, inr, add-zero, zero-add, arith}
-use Rattle.std.proofs.lemmas.List.{at_drop_all, at_drop_more, get_or-map, length-map}
+-- What the search gives is the first. Assumes nothing.
+use Rattle.std.proofs.Common.{◌≡◌, ℕ, zero, suc, ◌+◌, Bool, true, false, cond, ◌⊎◌, List, [], ◌∷◌, length, Some, None, Option, sym, refl, ap, ◌∙◌, subst, inl, inr, add-zero, zero-add, arith}
 use Rattle.std.proofs.lemmas.Bool.{both_ways, cases_Bool, cond-false, cond-true}
 use Rattle.quorum.specs.Sets.{everyone, has}
 use Rattle.quorum.proofs.Somes.{some_is, some_none}
 use Rattle.setup.specs.Orders.{Ordered}
-use Rattle.setup.specs.Rows.{among, entry, first, onward, sooner, IsFirst}
+use Rattle.setup.specs.Rows.{among, entry, first, sooner, IsFirst}
 use Rattle.setup.proofs.Gathering.{among_all}
 
 -- box i of the row with none at the boxes that are not in the set
@@ -34,26 +33,6 @@ among_from row s i v e = go (cases_Bool (has s i))
     go (inl h) = (h, sym (among_in row s i h) ∙ e)
     go (inr h) = absurd (some_none (sym e ∙ among_out row s i h))
 
--- what is left of the search at box i: what it has, if it is in the set, and what is left at the next
-onward_at : {V : Type 0} (before : V → V → Bool) (row : List (Option V)) (s i : ℕ) (y : Option V) → i < length row → y ≡ cond (has s i) (entry row i) None
-    → onward before row s i ≡ sooner before y (onward before row s (i + 1))
-onward_at {V} before row s i y lt here =
-    at_drop_more (λ (l : List (Option V)). first before (among l s i)) row i None lt ∙ ap (λ (x : Option V). sooner before x (onward before row s (i + 1))) (sym here)
-
--- what a turn of the search does with a box of the set, and with any other
-pub turn_takes : {T V : Type 0} (before : V → V → Bool) (f : T → Option V) (row : List T) (s i : ℕ) (x : T) (best y r all : Option V) → i < length row → x ≡ get_or row i x
-    → true ≡ has s i → y ≡ f x → ((rest : Option V) → sooner before r rest ≡ sooner before best (sooner before y rest)) → sooner before best (onward before (map f row) s i) ≡ all
-    → sooner before r (onward before (map f row) s (i + 1)) ≡ all
-turn_takes {T} {V} before f row s i x best y r all lt at inside read moves so_far =
-    let here = read ∙ ap f at ∙ sym (get_or-map f row i x None lt) ∙ sym (cond-true (has s i) _ None (sym inside)) in
-    moves (onward before (map f row) s (i + 1)) ∙ ap (sooner before best) (sym (onward_at before (map f row) s i y (simp length-map lt) here)) ∙ so_far
-
-pub turn_passes : {T V : Type 0} (before : V → V → Bool) (f : T → Option V) (row : List T) (s i : ℕ) (best all : Option V) → i < length row → false ≡ has s i
-    → sooner before best (onward before (map f row) s i) ≡ all → sooner before best (onward before (map f row) s (i + 1)) ≡ all
-turn_passes {T} {V} before f row s i best all lt outside so_far =
-    let here = sym (cond-false (has s i) (entry (map f row) i) None (sym outside)) in
-    ap (sooner before best) (sym (onward_at before (map f row) s i None (simp length-map lt) here)) ∙ so_far
-
 module _ {V : Type 0} {before : V → V → Bool} (o : Ordered before) where
   -- no two come before each other
   pub one_way : (a b : V) → before a b ≡ true → before b a ≡ false
@@ -71,17 +50,6 @@ module _ {V : Type 0} {before : V → V → Bool} (o : Ordered before) where
       go (inr e) d = e
       go (inl e) (inl d) = absurd (both_ways (before a b) h (o.transitive a c b e d))
       go (inl e) (inr d) = absurd (both_ways (before a b) h (subst (λ (x : V). before a x ≡ true) (sym (o.total b c g d)) e))
-
-  -- none adds nothing
-  pub sooner_none : (x : Option V) → sooner before x None ≡ x
-  sooner_none None = refl
-  sooner_none (Some a) = refl
-
-  -- nothing is left past the end
-  pub turns_done : (row : List (Option V)) (s i : ℕ) (best : Option V) → length row ≤ i → sooner before best (onward before row s i) ≡ first before (among row s 0)
-      → best ≡ first before (among row s 0)
-  turns_done row s i best end inv =
-      sym (sooner_none best) ∙ sym (at_drop_all (λ (l : List (Option V)). sooner before best (first before (among l s i))) row i end) ∙ inv
 
   -- the first of a row: it stands there, and nothing that stands there comes before it
   abbrev pub Least : List (Option V) → Option V → Type 0

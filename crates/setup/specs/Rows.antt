@@ -1,5 +1,5 @@
 -- A row has for each box a setup or none; the search finds the first among the boxes of a set, and the boxes that have a setup are a set. Assumes nothing.
-use Rattle.std.specs.Prelude.{◌≡◌, ℕ, ◌+◌, ◌*◌, Bool, true, false, cond, not, ◌&&◌, List, [], ◌∷◌, drop, Some, None, Option, ◌≢◌, slice_index_or}
+use Rattle.std.specs.Prelude.{◌≡◌, ℕ, ◌+◌, ◌*◌, Bool, true, false, cond, not, ◌&&◌, List, [], ◌∷◌, Some, None, Option, ◌≢◌, slice_index_or}
 use Rattle.quorum.specs.Sets.{has}
 
 -- what stands at box i of a row: none past its end
@@ -21,10 +21,6 @@ sooner before (Some a) (Some b) = Some (cond (before b a) b a)
 abbrev pub first : {V : Type 0} → (V → V → Bool) → List (Option V) → Option V
 first before [] = None
 first before (x ∷ row) = sooner before x (first before row)
-
--- the first among the boxes of the set from box i on
-abbrev pub onward : {V : Type 0} → (V → V → Bool) → List (Option V) → ℕ → ℕ → Option V
-onward before row s i = first before (among (drop i row) s i)
 
 -- The first among the boxes of a set: it stands at one of them, and comes before every different setup that stands at one. There is none
 -- where no box of the set has a setup.

@@ -1,9 +1,10 @@
 // One search: the first setup among the boxes of a set.
 ghost use Rattle.std.specs.Prelude.{◌≡◌, map, Some, Option};
-ghost use Rattle.setup.specs.Rows.{among, first as first_of, sooner as sooner_of, IsFirst};
+ghost use Rattle.setup.specs.Rows.{among, entry, first as first_of, sooner as sooner_of, IsFirst};
 
 use crate::orders::Setup;
-use quorum::sets::{BoxSet, contains};
+use quorum::members::each;
+use quorum::sets::BoxSet;
 
 // What a search reads of each entry of a row: a setup or none. A trait and not a closure: a call that takes a closure has a `requires`, and no public call has one.
 pub trait Field<T, V> {
@@ -37,6 +38,13 @@ impl<V: Setup> Field<Option<V>, V> for Optional {
     }
 }
 
+// What box `i` has, as `field` reads it from its entry in the row: none past the row's end.
+pub fn read_at<T, V: Setup, F: Field<T, V>>(field: &F, row: &[T], i: usize) -> Option<V>
+    ensures { result ≡ entry (map (F.Field.reads field.now) row.now) i }
+{
+    field.read(row.get(i)?)
+}
+
 // The one of two that comes first; none comes last.
 pub fn sooner<V: Setup>(a: Option<V>, b: Option<V>) -> Option<V>
     ensures value { result ≡ sooner_of V.Setup.before a b }
@@ -50,16 +58,14 @@ pub fn sooner<V: Setup>(a: Option<V>, b: Option<V>) -> Option<V>
 }
 
 // The first setup among the boxes of the set, as `field` reads it from their entries in the row.
-#[tactic(auto, using(crate::proofs::Searching::turn_takes, crate::proofs::Searching::turn_passes))]
+#[tactic(auto, using(crate::proofs::Walked::turn_takes, crate::proofs::Walked::search_ends))]
 pub fn first<T, V: Setup, F: Field<T, V>>(field: &F, row: &[T], set: BoxSet) -> Option<V>
     ensures value { result ≡ first_of V.Setup.before (among (map (F.Field.reads field.now) row.now) set 0) }
     ensures law { IsFirst V.Setup.before (map (F.Field.reads field.now) row.now) set result }
 {
     let mut best = None;
-    for (i, item) in row.iter().enumerate() {
-        if contains(set, i) {
-            best = sooner(best, field.read(item));
-        }
+    for i in each(set) {
+        best = sooner(best, read_at(field, row, i));
     }
     best
 }

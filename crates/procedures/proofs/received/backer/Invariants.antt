@@ -1,14 +1,13 @@
 use Rattle.std.proofs.Common.{map}
-use Rattle.setup.specs.Rows.{among}
-use Rattle.setup.proofs.Gathering.{Gathered}
+use Rattle.setup.proofs.Walked.{Gathered}
 use Rattle.procedures.proofs.Polling.{Lacks}
 use Rattle.procedures.proofs.Trying.{Seen}
 use Rattle.procedures.proofs.received.backer.Given as goal
 
--- the senders found so far, and those that are left
+-- the senders found so far, and the boxes that are left
 abbrev pub invariant-loop-j : goal.invariant-loop-j
-invariant-loop-j g l = Gathered g.V.Setup.before l.v (map (g.F.Field.reads l.field) l.row) l.heard l.j l.senders
+invariant-loop-j g l = Gathered g.V.Setup.before l.v (map (g.F.Field.reads l.field) l.row) l.heard l.j-iterator.left l.senders
 
 -- what was tried so far is backed by no quorum
 abbrev pub invariant-loop-i : goal.invariant-loop-i
-invariant-loop-i g l = Seen (Lacks (g.R.Rule.family l.rule) g.V.Setup.before l.others (among (map (g.F.Field.reads l.field) l.row) l.heard 0)) l.i l.tried
+invariant-loop-i g l = Seen (Lacks (g.R.Rule.family l.rule) g.V.Setup.before l.others (map (g.F.Field.reads l.field) l.row) l.heard) l.heard l.i-iterator.left l.tried
