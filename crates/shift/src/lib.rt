@@ -10,5 +10,3 @@ pub mod names;
 pub mod numbers;
 mod parts;
 pub mod reader;
-#[cfg(test)]
-mod tests;

@@ -4,6 +4,17 @@ use book::books::Book;
 use quorum::majority::Majority;
 use std::test::Fail;
 
+// What the row is declined with, none where it is taken, and how many rows are then written.
+fn enter(
+    book: &mut Book<'_, u32>,
+    rule: &Majority,
+    votes: &[Option<u32>],
+    decisions: &[Option<u32>],
+) -> (Option<(u8, usize)>, usize) {
+    let answer = refusal(book.enter(rule, votes, decisions));
+    (answer, book.written())
+}
+
 // A list for two rows of three boxes, and one vote over.
 #[test]
 fn a_book_of_three(rt: HostRuntime) -> Result<(), Fail> {
@@ -22,8 +33,10 @@ fn a_book_of_three(rt: HostRuntime) -> Result<(), Fail> {
         ([None, None, six], [None; 3], None, 2),
         ([None; 3], [None; 3], Some((9, 0)), 2),
     ] {
-        assert_eq!(rt; refusal(book.enter(&rule, &votes, &decisions)), answer);
-        assert_eq!(rt; book.written(), written);
+        assert_eq!(rt;
+            enter(&mut book, &rule, &votes, &decisions),
+            (answer, written)
+        );
     }
     Ok(())
 }
@@ -35,16 +48,19 @@ fn calls_that_do_not_fit(rt: HostRuntime) -> Result<(), Fail> {
     let mut list = [None; 2];
     let mut book = Book::new(&rule, &mut list);
     assert_eq!(rt; book.rows(), 0);
-    let votes: [Option<u32>; 3] = [None; 3];
-    let decisions: [Option<u32>; 3] = [None; 3];
-    let two: [Option<u32>; 2] = [None; 2];
-    let four: [Option<u32>; 4] = [None; 4];
-    assert_eq!(rt; refusal(book.enter(&other, &four, &two)), Some((2, 0)));
-    assert_eq!(rt; refusal(book.enter(&rule, &four, &two)), Some((5, 1)));
-    assert_eq!(rt; refusal(book.enter(&rule, &votes, &two)), Some((5, 2)));
     assert_eq!(rt;
-        refusal(book.enter(&rule, &votes, &decisions)),
-        Some((9, 0))
+        [
+            enter(&mut book, &other, &[None; 4], &[None; 2]),
+            enter(&mut book, &rule, &[None; 4], &[None; 2]),
+            enter(&mut book, &rule, &[None; 3], &[None; 2]),
+            enter(&mut book, &rule, &[None; 3], &[None; 3]),
+        ],
+        [
+            (Some((2, 0)), 0),
+            (Some((5, 1)), 0),
+            (Some((5, 2)), 0),
+            (Some((9, 0)), 0),
+        ]
     );
     Ok(())
 }

@@ -18,7 +18,11 @@ mod rules;
 mod runs;
 #[cfg(test)]
 mod setups;
+#[cfg(test)]
+mod texts;
 mod three;
+#[cfg(test)]
+mod trios;
 mod unison;
 
 // The worked examples agree with the definitions. Answers how many there are.

@@ -6,6 +6,7 @@ use quorum::present::AllPresent;
 use quorum::refusals::{Fault, Layer, Refusal, RuleFault};
 use quorum::rules::{ClearView, Rule};
 use quorum::sets;
+use quorum::sets::BoxSet;
 use quorum::sizes::Sizes;
 use std::test::Fail;
 
@@ -115,8 +116,19 @@ fn sizes_at_their_edges(rt: HostRuntime) {
     }
 }
 
+// Whether the set is a quorum under the majority of so many boxes.
+fn by_majority(n: usize, set: BoxSet) -> Result<bool, RuleFault> {
+    Ok(Majority::new(n)?.is_quorum(set))
+}
+
+// Whether the set is a quorum under the rule, and whether it is clear.
+fn by_sizes(made: Result<Sizes, RuleFault>, set: BoxSet) -> Result<(bool, bool), RuleFault> {
+    let rule = made?;
+    Ok((rule.is_quorum(set), rule.is_clear(set)))
+}
+
 #[test]
-fn quorums_by_count(rt: HostRuntime) -> Result<(), Fail> {
+fn quorums_by_count(rt: HostRuntime) {
     for (n, set, quorum) in [
         (1, 0, false),
         (1, 1, true),
@@ -127,7 +139,7 @@ fn quorums_by_count(rt: HostRuntime) -> Result<(), Fail> {
         (32, 0xffff, false),
         (32, 0x1_ffff, true),
     ] {
-        assert_eq!(rt; Majority::new(n)?.is_quorum(set), quorum);
+        assert_eq!(rt; by_majority(n, set), Ok(quorum));
     }
     for (n, set, quorum) in [
         (1, 1, true),
@@ -141,41 +153,69 @@ fn quorums_by_count(rt: HostRuntime) -> Result<(), Fail> {
         (32, 0x3f_ffff, true),
         (32, 0x1f_ffff, false),
     ] {
-        let rule = Sizes::thirds(n)?;
-        assert_eq!(rt; rule.is_quorum(set), quorum);
-        assert_eq!(rt; rule.is_clear(set), quorum);
+        assert_eq!(rt; by_sizes(Sizes::thirds(n), set), Ok((quorum, quorum)));
     }
-    let rule = Sizes::new(5, 3, 5)?;
-    assert_eq!(rt; rule.boxes(), 5);
-    assert!(rt; rule.is_quorum(21));
-    assert!(rt; !rule.is_clear(15));
-    assert!(rt; rule.is_clear(31));
-    Ok(())
+    for (set, quorum, clear) in [(15, true, false), (21, true, false), (31, true, true)] {
+        assert_eq!(rt; by_sizes(Sizes::new(5, 3, 5), set), Ok((quorum, clear)));
+    }
+}
+
+// A majority of three that contains the anchor.
+fn anchored(anchor: usize) -> Result<Anchored<Majority>, RuleFault> {
+    Anchored::new(Majority::new(3)?, anchor)
+}
+
+// Boxes 0 and 1 over the majority of three.
+fn twice_anchored() -> Result<Anchored<Anchored<Majority>>, RuleFault> {
+    Anchored::new(anchored(0)?, 1)
+}
+
+// Whether the set is a quorum under it, and under all-present over it, and whether it is clear there.
+fn layered(set: BoxSet) -> Result<(bool, bool, bool), RuleFault> {
+    let rule = twice_anchored()?;
+    let present = AllPresent::new(rule);
+    Ok((
+        rule.is_quorum(set),
+        present.is_quorum(set),
+        present.is_clear(set),
+    ))
+}
+
+// Whether the set is clear under all-present over the majority of 32.
+fn all_of_32(set: BoxSet) -> Result<bool, RuleFault> {
+    Ok(AllPresent::new(Majority::new(32)?).is_clear(set))
 }
 
 #[test]
-fn layered_rules(rt: HostRuntime) -> Result<(), Fail> {
-    let three = Majority::new(3)?;
+fn layered_rules(rt: HostRuntime) {
     for (anchor, number) in [(0, None), (2, None), (3, Some(4)), (usize::MAX, Some(4))] {
-        assert_eq!(rt; refusal(Anchored::new(three, anchor)), number);
+        assert_eq!(rt; refusal(anchored(anchor)), number);
     }
-    let anchored = Anchored::new(Anchored::new(three, 0)?, 1)?;
-    for (set, quorum) in [(3, true), (5, false), (6, false), (7, true), (11, false)] {
-        assert_eq!(rt; anchored.is_quorum(set), quorum);
-    }
-    let present = AllPresent::new(anchored);
-    assert_eq!(rt; present.boxes(), 3);
     for (set, quorum, clear) in [
         (3, true, false),
+        (5, false, false),
         (6, false, false),
         (7, true, true),
+        (11, false, false),
         (15, false, false),
     ] {
-        assert_eq!(rt; present.is_quorum(set), quorum);
-        assert_eq!(rt; present.is_clear(set), clear);
+        assert_eq!(rt; layered(set), Ok((quorum, quorum, clear)));
     }
-    let all = AllPresent::new(Majority::new(32)?);
-    assert!(rt; all.is_clear(u32::MAX));
-    assert!(rt; !all.is_clear(u32::MAX - 1));
+    assert_eq!(rt;
+        [all_of_32(u32::MAX), all_of_32(u32::MAX - 1)],
+        [Ok(true), Ok(false)]
+    );
+}
+
+// How many boxes a rule has that is made of others.
+#[test]
+fn boxes_of_rules(rt: HostRuntime) -> Result<(), Fail> {
+    assert_eq!(rt;
+        [
+            Sizes::new(5, 3, 5)?.boxes(),
+            AllPresent::new(twice_anchored()?).boxes(),
+        ],
+        [5, 3]
+    );
     Ok(())
 }

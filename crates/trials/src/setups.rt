@@ -10,7 +10,7 @@ const HERE: Card = Card {
     station: 2,
 };
 
-fn card(ring: u32, chainage: i32, station: u8) -> Card {
+pub(crate) fn card(ring: u32, chainage: i32, station: u8) -> Card {
     Card {
         ring,
         chainage,

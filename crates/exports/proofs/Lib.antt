@@ -1,0 +1,4 @@
+pub mod Putting
+pub mod Steps
+pub mod Telling
+pub mod Writing

@@ -1,0 +1,9 @@
+pub mod Asked
+pub mod Flat
+pub mod InTurn
+pub mod Kept
+pub mod Made
+pub mod Rooms
+pub mod Rowing
+pub mod Told
+pub mod Worked
