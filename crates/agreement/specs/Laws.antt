@@ -38,7 +38,7 @@ Read {V} slip s table v = Stands v (setups slip) ⊎ ((j : ℕ) × (other : Slip
 abbrev pub Alike : {V : Type 0} → ℕ → List (Slip V) → List (Slip V) → Type 0
 Alike s t u = (j : ℕ) → has s j ≡ true → slip_at t j ≡ slip_at u j
 
--- the first phases of a run, so many: it has a proposal for each box, and heard sets of the roster that each beat admits
+-- the first `phases` phases of a run: it has a proposal for each box, and heard sets of the roster that each beat admits
 pub record Course {V : Type 0} (p : Protocol V) (proposals : List V) (heard : ℕ → ℕ → List ℕ) (phases : ℕ) : Type 0 where
   pub proposed : length proposals ≡ p.rule.boxes
   pub few : phases ≤ last + 1

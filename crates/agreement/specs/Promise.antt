@@ -30,7 +30,7 @@ abbrev pub Leaves : {V : Type 0} → Protocol V → Moment V → Call V → Mome
 Leaves p m (beat sheet heard answer sheet') n = Beats p m.clock m.table sheet heard answer n.clock n.table sheet'
 Leaves p m (read i answer) n = Reads p m.table i answer × (n ≡ m)
 
--- A run is opened on a table that holds anything, and worked by so many calls, each on what the one before left.
+-- A run is opened on a table that holds anything, and worked by `calls` calls, each on what the one before left.
 pub record Worked {V : Type 0} (p : Protocol V) (proposals : List V) (calls : ℕ) (call : ℕ → Call V) (at : ℕ → Moment V) : Type 0 where
   pub blank : List (Slip V)
   pub opens : Opens p proposals blank (Ok (at 0).clock) (at 0).table
@@ -61,7 +61,7 @@ Ends m k = (m.clock.phase ≡ suc k) × (m.clock.beat ≡ 0)
 abbrev pub SameRule : Family → Family → Type 0
 SameRule f g = (f.boxes ≡ g.boxes) × ((s : ℕ) → f.quorum s ≡ g.quorum s)
 
--- A book of the run: fresh on any list, and then the first phases are entered in order, so many, each under a rule with the procedure's roster and quorums,
+-- A book of the run: fresh on any list, and then the first `phases` phases are entered in order, each under a rule with the procedure's roster and quorums,
 -- with the casts as votes and the news as decisions that the table has at a moment when the phase has just ended.
 pub record Kept {V : Type 0} (before : V → V → Bool) (p : Protocol V) (calls : ℕ) (at : ℕ → Moment V) (phases : ℕ) (book : ℕ → Pages V) (answer : ℕ → Result (Unit {0}) BookFault) : Type 0 where
   pub list : List (Option V)
@@ -97,13 +97,14 @@ Settling p calls call at = (t k : ℕ) → t ≤ calls → suc (suc k) ≤ (at t
 
 -- ---- the whole
 
+-- what holds of one way to work a run
 pub record Promised {V : Type 0} (before : V → V → Bool) (p : Protocol V) (proposals : List V) (calls : ℕ) (call : ℕ → Call V) (at : ℕ → Moment V) : Type 0 where
   pub agreement : Agreement calls at
   pub validity : Validity proposals calls at
   pub books : Books before p calls at
   pub settling : Settling p calls call at
 
--- Whatever is proposed, heard and asked, it holds.
+-- it holds over every run: whatever is proposed, heard and asked
 abbrev pub Promise : {V : Type 0} → (V → V → Bool) → Protocol V → Type 0
 Promise {V} before p =
     (proposals : List V) (calls : ℕ) (call : ℕ → Call V) (at : ℕ → Moment V) → Worked p proposals calls call at → Promised before p proposals calls call at

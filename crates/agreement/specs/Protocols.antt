@@ -23,12 +23,12 @@ numbered f i (x ∷ xs) = f i x ∷ numbered f (i + 1) xs
 abbrev pub beaten : {V : Type 0} → Protocol V → ℕ → ℕ → List ℕ → List (Slip V) → List (Slip V)
 beaten p k b heard table = numbered (λ i s. p.next k b i s (slice_index heard i) table) 0 table
 
--- the table after the first beats of phase k, so many, the heard sets being given by phase and beat
+-- the table after the first b beats of phase k, the heard sets being given by phase and beat
 abbrev pub within_phase : {V : Type 0} → Protocol V → (ℕ → ℕ → List ℕ) → ℕ → ℕ → List (Slip V) → List (Slip V)
 within_phase p heard k zero table = table
 within_phase p heard k (suc b) table = beaten p k b (heard k b) (within_phase p heard k b table)
 
--- the table after the first phases, so many
+-- the table after the first k phases
 abbrev pub through : {V : Type 0} → Protocol V → (ℕ → ℕ → List ℕ) → ℕ → List (Slip V) → List (Slip V)
 through p heard zero table = table
 through p heard (suc k) table = within_phase p heard k p.beats (through p heard k table)

@@ -9,6 +9,7 @@ use crate::faults::RunFault;
 use crate::hearing::Given;
 use crate::procedures::Procedure;
 use crate::slips::Slip;
+use quorum::rules::Rule;
 use quorum::sets::BoxSet;
 use setup::orders::Setup;
 
@@ -23,7 +24,7 @@ fn admit<'a, V: Setup, P: Procedure<V>>(
     ensures value { Answers (no_beat_lowest (P.Procedure.meaning procedure.now) clock table sheet heard.now) (λ _. Unit {0}) result }
     ensures fitting { IfOk result (GoesOn (P.Procedure.meaning procedure.now) procedure.now clock table sheet heard.now) }
 {
-    let boxes = procedure.boxes();
+    let boxes = procedure.rule().boxes();
     have_lengths(boxes, table, sheet, heard.len())?;
     let given = Given {
         procedure,

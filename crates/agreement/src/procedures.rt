@@ -4,20 +4,20 @@ ghost use Rattle.agreement.specs.Laws.{Lawful};
 ghost use Rattle.agreement.specs.Protocols.{Protocol};
 
 use crate::slips::Slip;
+use quorum::rules::Rule;
 use quorum::sets::BoxSet;
 use setup::orders::Setup;
 
 // How the boxes come to agree: a rule's quorums, and what each beat of a phase makes of the slips. Phase and beat stay two numbers, as its meaning takes them.
 pub trait Procedure<V: Setup> {
+    // The kind of rule that it is over.
+    type Over: Rule;
+
     ghost meaning: { Self → Protocol V };
 
-    // How many boxes the roster has.
-    fn boxes(&self) -> usize
-        ensures { result ≡ (meaning self.now).rule.boxes };
-
-    // Whether the set is a quorum.
-    fn is_quorum(&self, set: BoxSet) -> bool
-        ensures { result ≡ (meaning self.now).rule.quorum set };
+    // The rule that it is over.
+    fn rule(&self) -> &Self::Over
+        ensures { Self.Over.Rule.family result.now ≡ (meaning self.now).rule };
 
     // How many beats a phase has.
     fn beats(&self) -> u8

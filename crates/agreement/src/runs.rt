@@ -10,6 +10,7 @@ use crate::faults::RunFault;
 use crate::procedures::Procedure;
 use crate::slips::Slip;
 use crate::tables::fill;
+use quorum::rules::Rule;
 use quorum::sets::BoxSet;
 use setup::orders::Setup;
 use std::marker::PhantomData;
@@ -30,7 +31,7 @@ fn begin<V: Setup, P: Procedure<V>>(
 ) -> Result<Clock, RunFault>
     ensures { Opens (P.Procedure.meaning procedure.now) proposals.now table.old result table.new }
 {
-    may_open(procedure.boxes(), proposals.len(), table.len())?;
+    may_open(procedure.rule().boxes(), proposals.len(), table.len())?;
     fill(proposals, table);
     Ok(Clock::beginning())
 }
@@ -84,7 +85,7 @@ impl<V: Setup, P: Procedure<V>> Run<V, P> {
     pub fn read(&self, table: &[Slip<V>], i: usize) -> Result<Slip<V>, RunFault>
         ensures { Reads (P.Procedure.meaning self.now.procedure) table.now i result }
     {
-        may_read(self.procedure.boxes(), table.len(), i)?;
+        may_read(self.procedure.rule().boxes(), table.len(), i)?;
         Ok(table[i])
     }
 }

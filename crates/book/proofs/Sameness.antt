@@ -12,11 +12,11 @@ use Rattle.book.specs.Voting.{Unanimous}
 
 -- in a row of 32 boxes at most, the boxes that have a setup, sought among all of the row's
 pub all_sought : {V : Type 0} (before : V → V → Bool) (v : V) (row : List (Option V)) (s r : ℕ) → length row ≤ 32 → s ≡ everyone (min (length row) 32)
-    → r ≡ boxes_with before v (among (map (λ x. x) row) s 0) → r ≡ boxes_with before v row
+    → r ≡ boxes_with before v (among (map (λ x. x) row) s) → r ≡ boxes_with before v row
 all_sought {V} before v row s r few all found =
     let whole : min (length row) 32 ≡ length row = omega arith in
-    found ∙ ap (λ (l : List (Option V)). boxes_with before v (among l s 0)) (map-id row)
-    ∙ ap (boxes_with before v) (ap (λ (t : ℕ). among row t 0) (all ∙ ap everyone whole) ∙ among_all row (length row) (omega arith))
+    found ∙ ap (λ (l : List (Option V)). boxes_with before v (among l s)) (map-id row)
+    ∙ ap (boxes_with before v) (ap (λ (t : ℕ). among row t) (all ∙ ap everyone whole) ∙ among_all row (length row) (omega arith))
 
 module _ {V : Type 0} {before : V → V → Bool} (o : Ordered before) where
   -- the voters are unanimous

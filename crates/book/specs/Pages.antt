@@ -33,7 +33,7 @@ extended b votes = record {
   written = b.written + 1;
 }
 
--- a box that had voted x, and now votes y, turns from a quorum: x's voters in the earlier row are one, and y is another setup
+-- a box that had voted v, and now votes w, turns from a quorum: v's voters in the earlier row are one, and w is another setup
 abbrev pub turns : {V : Type 0} → Family → (V → V → Bool) → List (Option V) → Option V → Option V → Bool
 turns f before earlier None y = false
 turns f before earlier (Some v) None = false

@@ -18,6 +18,6 @@ abbrev pub Backed : {V : Type 0} → Family → List (Option V) → List (Option
 Backed {V} f votes decisions =
     (i : ℕ) (w : V) → entry decisions i ≡ Some w → (q : ℕ) × (f.quorum q ≡ true) × Unanimous q w votes
 
--- both guards of a row, the earlier rows being numbered from 0 and so many
+-- both guards of a row, of which the earlier rows are those numbered below `rows`
 abbrev pub Guards : {V : Type 0} → Family → (ℕ → List (Option V)) → ℕ → List (Option V) → List (Option V) → Type 0
-Guards f earlier so_many votes decisions = ((r : ℕ) → r < so_many → Loyal f (earlier r) votes) × Backed f votes decisions
+Guards f earlier rows votes decisions = ((r : ℕ) → r < rows → Loyal f (earlier r) votes) × Backed f votes decisions

@@ -3,6 +3,8 @@ use Rattle.std.proofs.Common.{◌≡◌, ℕ, zero, suc, ◌+◌, ◌*◌, ◌�
 use mir.Val.{bool_byte}
 use Rattle.std.proofs.lemmas.List.{length-take-le}
 use Rattle.quorum.specs.declared.refusals.RuleFault.{RuleFault}
+use Rattle.quorum.specs.declared.chosen.ChosenRule.{ChosenRule}
+use Rattle.quorum.specs.Chosen.{clear_of, family_of}
 use Rattle.quorum.specs.Refusals.{Answers, of_rule}
 use Rattle.quorum.specs.Rules.{Family}
 use Rattle.agreement.specs.declared.faults.RunFault.{RunFault}
@@ -10,9 +12,7 @@ use Rattle.agreement.specs.declared.slips.Slip.{Slip}
 use Rattle.agreement.specs.Protocols.{Protocol}
 use Rattle.agreement.specs.Slips.{opening}
 use Rattle.exports.specs.declared.flat.FlatSlip.{FlatSlip}
-use Rattle.exports.specs.declared.rules.AskedRule.{AskedRule}
 use Rattle.exports.specs.Flat.{flat_fault, flat_slip}
-use Rattle.exports.specs.Made.{clear_of, family}
 use Rattle.exports.specs.Told.{answers_or, blank, lent, written}
 use Rattle.exports.specs.Worked.{RunsAsked}
 
@@ -22,10 +22,10 @@ bit true q n made is = made ∙ ap (λ (b : Bool). cond b 1 0) is
 bit false q n made is = made ∙ ap (λ (b : Bool). cond b 1 0) is
 
 -- a rule that was made answers for the rule that was asked for
-pub made_tells : (o : Option RuleFault) (f : Family) (clear : ℕ → Bool) (rule : AskedRule) (set q c : ℕ) → Answers o (λ x. (family x ≡ f) × (clear_of x ≡ clear)) (Ok rule)
-    → q ≡ cond ((family rule).quorum set) 1 0 → c ≡ cond (clear_of rule set) 1 0 → q + 2 * c ≡ answers_or o (f.quorum set) (clear set)
+pub made_tells : (o : Option RuleFault) (f : Family) (clear : ℕ → Bool) (rule : ChosenRule) (set q c : ℕ) → Answers o (λ x. (family_of x ≡ f) × (clear_of x ≡ clear)) (Ok rule)
+    → q ≡ cond ((family_of rule).quorum set) 1 0 → c ≡ cond (clear_of rule set) 1 0 → q + 2 * c ≡ answers_or o (f.quorum set) (clear set)
 made_tells None f clear rule set q c is a b =
-    (λ i. a i + 2 * b i) ∙ ap (λ n. cond ((family rule).quorum set) 1 0 + n) (twice (clear_of rule set))
+    (λ i. a i + 2 * b i) ∙ ap (λ n. cond ((family_of rule).quorum set) 1 0 + n) (twice (clear_of rule set))
     ∙ (λ i. cond ((is.0 i).quorum set) 1 0 + cond (is.1 i set) 2 0)
   where
     twice : (b : Bool) → 2 * cond b 1 0 ≡ cond b 2 0
@@ -33,7 +33,7 @@ made_tells None f clear rule set q c is a b =
     twice false = refl
 made_tells (Some g) f clear rule set q c is a b = absurd is
 
-pub fault_tells : (o : Option RuleFault) (P : AskedRule → Type 0) (g : RuleFault) (q c : Bool) → Answers o P (Err g) → flat_fault (of_rule g) ≡ answers_or o q c
+pub fault_tells : (o : Option RuleFault) (P : ChosenRule → Type 0) (g : RuleFault) (q c : Bool) → Answers o P (Err g) → flat_fault (of_rule g) ≡ answers_or o q c
 fault_tells None P g q c is = absurd is
 fault_tells (Some h) P g q c is = ap (λ f. flat_fault (of_rule f)) is
 

@@ -13,7 +13,7 @@ use Rattle.procedures.specs.Licence.{licensed}
 use Rattle.procedures.specs.Observing.{observing}
 use Rattle.exports.specs.declared.numbers.RuleNumbers.{RuleNumbers}
 
--- so many boxes, as the numbers have it: more than two thirds, or k
+-- how many boxes, as the numbers have it: more than two thirds, or k
 abbrev pub least : RuleNumbers → ℕ → ℕ
 least r k = cond (r.base == 1) (thirds r.boxes) k
 
@@ -42,10 +42,13 @@ clear_asked r = cond (r.anchored == 0) (cond (r.base == 0) (present (asked r)) (
 
 -- ---- a run
 
--- 0 asks for Fast over the rule, 1 for Observing, 3 for the standard licence of as many boxes, and every other number for Latest
+-- over a rule and its clear sets 0 asks for Fast, 1 for Observing, and every other number for Latest
+abbrev pub over : ℕ → Family → (ℕ → Bool) → Protocol ℕ
+over k f clear = cond (k == 0) (fast number_before f clear) (cond (k == 1) (observing number_before f) (latest number_before f))
+
+-- but 3 asks for the standard licence of as many boxes
 abbrev pub procedure : ℕ → RuleNumbers → Protocol ℕ
-procedure k r =
-    cond (k == 0) (fast number_before (asked r) (clear_asked r)) (cond (k == 1) (observing number_before (asked r)) (cond (k == 3) (licensed number_before r.boxes) (latest number_before (asked r))))
+procedure k r = cond (k == 3) (licensed number_before r.boxes) (over k (asked r) (clear_asked r))
 
 -- why its rule cannot be made
 abbrev pub no_procedure : ℕ → RuleNumbers → Option RuleFault

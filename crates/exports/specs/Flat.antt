@@ -5,7 +5,7 @@ use Rattle.quorum.specs.Refusals.{number}
 use Rattle.agreement.specs.declared.slips.Slip.{Slip}
 use Rattle.exports.specs.declared.flat.FlatSlip.{FlatSlip}
 
--- what has more than 32 bits counts from here
+-- 2^32: of two numbers in one, the higher is counted in these
 abbrev pub higher : ℕ
 higher = 4294967296
 
@@ -31,9 +31,9 @@ flat_slip s = record {
 }
 
 -- the setup or none that a number stands for; one that is too large is none
-abbrev pub meant : ℕ → Option ℕ
-meant zero = None
-meant (suc v) = cond (nat_lt v higher) (Some v) None
+abbrev pub setup_of : ℕ → Option ℕ
+setup_of zero = None
+setup_of (suc v) = cond (nat_lt v higher) (Some v) None
 
 -- the refusal's number stands above the place
 abbrev pub flat_fault : Fault → ℕ

@@ -12,7 +12,7 @@ use Rattle.book.specs.Faults.{of_book}
 use Rattle.book.specs.Pages.{Pages, fresh}
 use Rattle.exports.specs.declared.numbers.RuleNumbers.{RuleNumbers}
 use Rattle.exports.specs.Asked.{asked, no_rule}
-use Rattle.exports.specs.Flat.{flat, flat_fault, meant}
+use Rattle.exports.specs.Flat.{flat, flat_fault, setup_of}
 use Rattle.exports.specs.InTurn.{InTurn, part, parts}
 
 -- votes and decisions, and how many of each make a row
@@ -46,18 +46,19 @@ KeepsOr (Some g) f n r list answer list' = (answer ≡ Err (of_rule g)) × (list
 KeepsOr None f n r list answer list' =
     (e : Entered) × InTurn (RowOf f r) (record { answer = Ok tt; pages = fresh n list }) (rows r) e × (answer ≡ reported e.answer) × (list' ≡ e.pages.list)
 
+-- the same under the rule that the numbers ask for
 abbrev pub Keeps : RuleNumbers → ℕ → Rows → List (Option ℕ) → Result (Unit {0}) Fault → List (Option ℕ) → Type 0
 Keeps r n = KeepsOr (either (no_roster n) (no_rule r)) (asked r) n
 
 -- ---- in numbers
 
 -- 2,048 entries of a list at most are read
-abbrev pub read : List ℕ → List (Option ℕ)
-read numbers = map meant (take (min (length numbers) 2048) numbers)
+abbrev pub entries_of : List ℕ → List (Option ℕ)
+entries_of numbers = map setup_of (take (min (length numbers) 2048) numbers)
 
 -- the setups or none over the front of the list
-abbrev pub listed : List (Option ℕ) → List ℕ → List ℕ
-listed setups old = map flat setups ++ drop (min (length old) 2048) old
+abbrev pub written_over : List (Option ℕ) → List ℕ → List ℕ
+written_over setups old = map flat setups ++ drop (min (length old) 2048) old
 
 abbrev pub answer_number : Result (Unit {0}) Fault → ℕ
 answer_number (Ok u) = 0
@@ -67,6 +68,6 @@ answer_number (Err f) = flat_fault f
 pub record BookTold (n : ℕ) (r : RuleNumbers) (list votes : List ℕ) (each_votes : ℕ) (decisions : List ℕ) (each_decisions : ℕ) (number : ℕ) (list' : List ℕ) : Type 0 where
   pub answer : Result (Unit {0}) Fault
   pub entries : List (Option ℕ)
-  pub keeps : Keeps r n (record { votes = read votes; each_votes = each_votes; decisions = read decisions; each_decisions = each_decisions }) (read list) answer entries
+  pub keeps : Keeps r n (record { votes = entries_of votes; each_votes = each_votes; decisions = entries_of decisions; each_decisions = each_decisions }) (entries_of list) answer entries
   pub told : number ≡ answer_number answer
-  pub list_told : list' ≡ listed entries list
+  pub list_told : list' ≡ written_over entries list

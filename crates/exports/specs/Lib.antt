@@ -2,7 +2,6 @@ pub mod Asked
 pub mod Flat
 pub mod InTurn
 pub mod Kept
-pub mod Made
 pub mod Rooms
 pub mod Rowing
 pub mod Told

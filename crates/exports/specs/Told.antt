@@ -29,11 +29,11 @@ abbrev pub run_number : Result (Unit {0}) RunFault → ℕ
 run_number (Ok u) = 0
 run_number (Err f) = flat_fault (of_run f)
 
--- how many slips a run is lent where so many are: 40 at most
+-- how many slips a run is lent of n that are passed: 40 at most
 abbrev pub lent : ℕ → ℕ
 lent n = min n 40
 
--- so many slips before an opening
+-- the n slips that are passed, as a run is lent them
 abbrev pub blank : ℕ → List (Slip ℕ)
 blank n = take (lent n) (replicate 40 (opening 0))
 

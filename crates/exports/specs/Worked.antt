@@ -31,6 +31,7 @@ abbrev pub RunsOr : Option RunFault → Protocol ℕ → List ℕ → ℕ → Li
 RunsOr (Some f) p proposals each heard table sheet answer table' sheet' = (answer ≡ Err f) × (table' ≡ table) × (sheet' ≡ sheet)
 RunsOr None p proposals each heard table sheet answer table' sheet' = Works p each heard beginning (opened proposals) sheet answer table' sheet'
 
+-- the same, opened with proposals and a table of these lengths
 abbrev pub Runs : Protocol ℕ → List ℕ → ℕ → List ℕ → List (Slip ℕ) → List (Slip ℕ) → Result (Unit {0}) RunFault → List (Slip ℕ) → List (Slip ℕ) → Type 0
 Runs p proposals each heard table = RunsOr (no_opening p.rule.boxes (length proposals) (length table)) p proposals each heard table
 

@@ -3,14 +3,15 @@ ghost use Rattle.std.specs.Prelude.{◌≡◌, Ok};
 ghost use Rattle.book.specs.Keeping.{pages};
 ghost use Rattle.exports.specs.InTurn.{InTurn};
 ghost use Rattle.exports.specs.Kept.{Keeps, RowOf, rows as how_many};
-ghost use Rattle.exports.specs.Made.{family};
+ghost use Rattle.quorum.specs.Chosen.{family_of};
 ghost use Rattle.exports.specs.Rowing.{as_rows};
 
 use crate::numbers::RuleNumbers;
 use crate::parts::{part, parts};
-use crate::rules::AskedRule;
+use crate::rules::rule_asked;
 use book::books::Book;
 use book::faults::BookFault;
+use quorum::chosen::ChosenRule;
 use quorum::majority::Majority;
 use quorum::refusals::Fault;
 
@@ -24,8 +25,8 @@ pub(crate) struct Rows<'a> {
 }
 
 // Enters the rows, as many as votes and decisions both have whole. Answers what came of the last.
-fn enter(book: &mut Book<'_, u32>, rule: &AskedRule, rows: Rows<'_>) -> Result<(), BookFault>
-    ensures value { InTurn (RowOf (family rule.now) (as_rows rows.entry)) (record { answer = Ok tt; pages = pages book.old }) (how_many (as_rows rows.entry)) (record { answer = result; pages = pages book.new }) }
+fn enter(book: &mut Book<'_, u32>, rule: &ChosenRule, rows: Rows<'_>) -> Result<(), BookFault>
+    ensures value { InTurn (RowOf (family_of rule.now) (as_rows rows.entry)) (record { answer = Ok tt; pages = pages book.old }) (how_many (as_rows rows.entry)) (record { answer = result; pages = pages book.new }) }
     ensures lent { book.new.list.ghost_name ≡ book.old.list.ghost_name }
 {
     let votes = parts(rows.each_votes, rows.votes);
@@ -41,7 +42,7 @@ fn enter(book: &mut Book<'_, u32>, rule: &AskedRule, rows: Rows<'_>) -> Result<(
     last
 }
 
-// A book of so many boxes in the list, with the rows entered under a rule.
+// A book of this number of boxes in the list, with the rows entered under a rule.
 pub(crate) fn keep(
     boxes: usize,
     rule: &RuleNumbers,
@@ -51,7 +52,7 @@ pub(crate) fn keep(
     ensures { Keeps rule.now boxes (as_rows rows.entry) list.old result list.new }
 {
     let roster = Majority::new(boxes)?;
-    let rule = AskedRule::new(rule)?;
+    let rule = rule_asked(rule)?;
     let mut book = Book::new(&roster, list);
     enter(&mut book, &rule, rows)?;
     Ok(())

@@ -1,36 +1,31 @@
 // The calls: what they are given and what they tell is numbers and slices.
-ghost use Rattle.std.specs.Prelude.{◌≡◌, ◌≤◌, ◌++◌, None, drop, length, map, min, replicate, take, true};
-ghost use Rattle.agreement.specs.Slips.{opening};
+ghost use Rattle.std.specs.Prelude.{◌≡◌, ◌++◌, take, true};
 ghost use Rattle.office.specs.Answers.{answer};
 ghost use Rattle.office.specs.Printed.{printed};
-ghost use Rattle.exports.specs.Flat.{flat_slip};
-ghost use Rattle.exports.specs.Kept.{BookTold, read};
+ghost use Rattle.exports.specs.Kept.{BookTold};
 ghost use Rattle.exports.specs.Rooms.{text_of};
 ghost use Rattle.exports.specs.Told.{RunTold, rule_told, run_number};
 
 use crate::books::{Rows, keep};
 use crate::flat::{FlatSlip, flat_fault};
+use crate::lent::{ROOM, blank, blank_entries, read_entries, tell};
 use crate::numbers::RuleNumbers;
 use crate::put::put;
 use crate::room::Room;
-use crate::rules::AskedRule;
+use crate::rules::rule_asked;
 use crate::runs::{Shift, run_asked};
 use agreement::faults::RunFault;
-use agreement::slips::Slip;
 use office::printouts::Printout;
 use quorum::refusals::Fault;
 use quorum::rules::{ClearView, Rule};
 use std::fmt::Write;
 
-// How many slips a run can be lent: some more than the largest roster has, so that too many can be lent.
-const ROOM: usize = 40;
-
-// What the rule answers of a set, or why it cannot be made.
+// What the rule answers of a set, 1 for a quorum and 2 for a clear one, added; or the fault of its making, as a number.
 #[unsafe(no_mangle)]
 pub extern "C" fn zotymoi_rule(rule: &RuleNumbers, set: u32) -> u64
     ensures { result ≡ rule_told rule.now set }
 {
-    match AskedRule::new(rule) {
+    match rule_asked(rule) {
         Ok(rule) => u64::from(rule.is_quorum(set)) + 2 * u64::from(rule.is_clear(set)),
         Err(fault) => flat_fault(Fault::from(fault)),
     }
@@ -46,23 +41,9 @@ fn run_fault(answer: Result<(), RunFault>) -> u64
     }
 }
 
-// Slips before an opening.
-fn blank() -> [Slip<u32>; ROOM]
-    ensures { result ≡ replicate 40 (opening 0) }
-{
-    [Slip::opening(0); ROOM]
-}
-
-// Writes the slips over the front of what is lent.
-fn tell(slips: &[Slip<u32>], lent: &mut [FlatSlip])
-    requires { length slips.now ≤ length lent.old }
-    ensures { lent.new ≡ map flat_slip slips.now ++ drop (length slips.now) lent.old }
-{
-    put(slips, &mut lent[..slips.len()]);
-}
-
 // A run over a rule, opened on the proposals and worked by the beats of `heard`, `each` heard sets to a beat. As many slips of the
-// table and the sheet as are lent are written afterwards.
+// table and the sheet as are lent are written afterwards. Procedure 0 is Fast, 1 Observing, 3 the standard licence, and every other number
+// Latest. Tells the fault of the last call, as a number; 0 where it was taken.
 #[unsafe(no_mangle)]
 pub extern "C" fn zotymoi_run(
     rule: &RuleNumbers,
@@ -89,28 +70,8 @@ pub extern "C" fn zotymoi_run(
     run_fault(answer)
 }
 
-// How many entries a book can be lent, and how many votes and decisions can be given.
-const ENTRIES: usize = 2048;
-
-// Entries before anything is read into them.
-fn blank_entries() -> [Option<u32>; ENTRIES]
-    ensures { result ≡ replicate 2048 None }
-{
-    [None; ENTRIES]
-}
-
-// Reads the numbers into the entries, as many as there are.
-fn read_entries(numbers: &[u64], entries: &mut [Option<u32>]) -> usize
-    requires { length entries.old ≡ 2048 }
-    ensures number { result ≡ min (length numbers.now) 2048 }
-    ensures entries { take result entries.new ≡ read numbers.now }
-{
-    let n = numbers.len().min(ENTRIES);
-    put(&numbers[..n], &mut entries[..n]);
-    n
-}
-
-// A book of so many boxes in the list, and rows of votes and decisions that are entered into it under a rule. The list is written afterwards.
+// A book of this number of boxes in the list, and rows of votes and decisions that are entered into it under a rule. The list is written afterwards.
+// A setup or none is a number as in a slip. Tells the fault of the last row, as a number; 0 where it was taken.
 #[unsafe(no_mangle)]
 pub extern "C" fn zotymoi_book(
     boxes: usize,

@@ -1,6 +1,6 @@
 // Setups, slips and faults as plain numbers.
 ghost use Rattle.std.specs.Prelude.{◌≡◌};
-ghost use Rattle.exports.specs.Flat.{flat as number_of, flat_dated as dated_number, flat_fault as fault_number, flat_slip as flat_of, meant};
+ghost use Rattle.exports.specs.Flat.{flat as number_of, flat_dated as dated_number, flat_fault as fault_number, flat_slip as flat_of, setup_of};
 
 use crate::put::Recast;
 use agreement::slips::Slip;
@@ -67,7 +67,7 @@ impl Recast<u64> for Option<u32> {
 
 // A number that is too large is none.
 impl Recast<Option<u32>> for u64 {
-    ghost form = { meant };
+    ghost form = { setup_of };
 
     fn recast(&self) -> Option<u32> {
         match *self {

@@ -4,6 +4,7 @@
 mod books;
 mod calls;
 mod flat;
+mod lent;
 mod numbers;
 mod parts;
 mod put;

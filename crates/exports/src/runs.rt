@@ -2,12 +2,12 @@
 ghost use Rattle.quorum.specs.Making.{no_roster};
 ghost use Rattle.setup.specs.Kinds.{number_before};
 ghost use Rattle.procedures.specs.Licence.{licensed};
-ghost use Rattle.exports.specs.Asked.{no_procedure, procedure as procedure_by};
+ghost use Rattle.exports.specs.Asked.{no_procedure, over, procedure as procedure_by};
 ghost use Rattle.exports.specs.Worked.{Runs, RunsAsked, Works};
 
 use crate::numbers::RuleNumbers;
 use crate::parts::{part, parts};
-use crate::rules::AskedRule;
+use crate::rules::rule_asked;
 use agreement::faults::RunFault;
 use agreement::procedures::Procedure;
 use agreement::runs::Run;
@@ -16,6 +16,8 @@ use procedures::fast::Fast;
 use procedures::latest::Latest;
 use procedures::licence;
 use procedures::observing::Observing;
+use quorum::chosen::ChosenRule;
+use quorum::rules::ClearView;
 use quorum::sets::BoxSet;
 
 // What a run is opened on, and the beats that it is worked by: `each` heard sets to a beat, as many beats as are whole.
@@ -56,7 +58,7 @@ fn run<P: Procedure<u32> + Drop>(
     work(run, shift, table, sheet)
 }
 
-// Opens the standard licence of so many boxes, and works it.
+// Opens the standard licence of this number of boxes, and works it.
 fn run_licence(
     boxes: usize,
     shift: Shift<'_>,
@@ -67,6 +69,23 @@ fn run_licence(
 {
     let run = licence::open(boxes, shift.proposals, table)?;
     work(run, shift, table, sheet)
+}
+
+// A run of the procedure that is asked for over the rule. Each rule has code of its own.
+fn run_over<R: ClearView + Copy + Drop>(
+    rule: R,
+    procedure: u32,
+    shift: Shift<'_>,
+    table: &mut [Slip<u32>],
+    sheet: &mut [Slip<u32>],
+) -> Result<(), RunFault>
+    ensures { Runs (over procedure (R.Rule.family rule) (R.ClearView.clear rule)) shift.entry.proposals.now shift.entry.each shift.entry.heard.now table.old sheet.old result table.new sheet.new }
+{
+    match procedure {
+        0 => run(Fast::new(rule), shift, table, sheet),
+        1 => run(Observing::new(rule), shift, table, sheet),
+        _ => run(Latest::new(rule), shift, table, sheet),
+    }
 }
 
 // The run that is asked for.
@@ -82,10 +101,10 @@ pub(crate) fn run_asked(
     if procedure == 3 {
         return run_licence(numbers.boxes, shift, table, sheet);
     }
-    let rule = AskedRule::new(numbers)?;
-    match procedure {
-        0 => run(Fast::new(rule), shift, table, sheet),
-        1 => run(Observing::new(rule), shift, table, sheet),
-        _ => run(Latest::new(rule), shift, table, sheet),
+    match rule_asked(numbers)? {
+        ChosenRule::Majority(rule) => run_over(rule, procedure, shift, table, sheet),
+        ChosenRule::Sizes(rule) => run_over(rule, procedure, shift, table, sheet),
+        ChosenRule::AnchoredMajority(rule) => run_over(rule, procedure, shift, table, sheet),
+        ChosenRule::AnchoredSizes(rule) => run_over(rule, procedure, shift, table, sheet),
     }
 }

@@ -11,8 +11,9 @@ use Rattle.shift.specs.declared.names.RuleName.TheVariants.{Majority, Thirds, An
 use Rattle.shift.specs.Faults.{at_line}
 use Rattle.shift.specs.Lines.{longest, unless_long}
 use Rattle.office.specs.declared.named_procedure.NamedProcedure.{NamedProcedure}
-use Rattle.office.specs.declared.named_rule.NamedRule.{NamedRule}
-use Rattle.office.specs.Named.{asked_for, clear_by, clear_of, family, meant, over, rule_by}
+use Rattle.quorum.specs.declared.chosen.ChosenRule.{ChosenRule}
+use Rattle.quorum.specs.Chosen.{clear_of, family_of}
+use Rattle.office.specs.Named.{asked_for, clear_by, meant, over, rule_by}
 
 -- a text of which something is read is not too long
 short_by : {X : Type 0} (b : Bool) (x : X) (r : Result X TextFault) → Ok x ≡ cond b r (Err (at_line Long 1)) → b ≡ true
@@ -36,5 +37,5 @@ over_boxes Latest f clear = refl
 pub asked_boxes : (r : RuleName) (p : ProcedureName) (n : ℕ) → (asked_for r p n).rule.boxes ≡ n
 asked_boxes r p n = over_boxes p (rule_by r n) (clear_by r n) ∙ rule_boxes r n
 
-pub meant_boxes : (made : NamedProcedure) (p : ProcedureName) (rule : NamedRule) (r : RuleName) (n : ℕ) → meant made ≡ over p (family rule) (clear_of rule) → family rule ≡ rule_by r n → (meant made).rule.boxes ≡ n
-meant_boxes made p rule r n is named = ap (λ q. q.rule.boxes) is ∙ over_boxes p (family rule) (clear_of rule) ∙ ap (λ f. f.boxes) named ∙ rule_boxes r n
+pub meant_boxes : (made : NamedProcedure) (p : ProcedureName) (rule : ChosenRule) (r : RuleName) (n : ℕ) → meant made ≡ over p (family_of rule) (clear_of rule) → family_of rule ≡ rule_by r n → (meant made).rule.boxes ≡ n
+meant_boxes made p rule r n is named = ap (λ q. q.rule.boxes) is ∙ over_boxes p (family_of rule) (clear_of rule) ∙ ap (λ f. f.boxes) named ∙ rule_boxes r n

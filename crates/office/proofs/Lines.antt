@@ -1,6 +1,6 @@
 -- The lines of beats, one after another. Assumes nothing.
-use Rattle.std.proofs.Common.{◌≡◌, ℕ, suc, ◌+◌, Bool, true, false, cond, List, [], ◌∷◌, length, take, drop, Some, None, Ok, Err, codes, Option, Result, ltb, eqb, refl, ap, ◌∙◌, arith}
-use Rattle.std.proofs.lemmas.Bool.{eqb-true, ltb-false, ltb-true}
+use Rattle.std.proofs.Common.{◌≡◌, ℕ, suc, ◌+◌, Bool, true, false, cond, nat_le, List, [], ◌∷◌, length, take, drop, Some, None, Ok, Err, codes, Option, Result, ltb, eqb, refl, sym, ap, ◌∙◌, arith}
+use Rattle.std.proofs.lemmas.Bool.{ltb-false, ltb-true}
 use Rattle.std.proofs.lemmas.List.Splits.{length-slice_split, slice_split_first, slice_split_none}
 use Rattle.std.proofs.lemmas.List.Sums.{fails_before_first}
 use Rattle.std.specs.List.{position_or_len, slice_split}
@@ -8,18 +8,16 @@ use Rattle.std.specs.Option.{option_map}
 use Rattle.agreement.specs.Promise.{Moment}
 use Rattle.agreement.specs.Protocols.{Protocol}
 use Rattle.shift.specs.declared.classes.Class.TheVariants.{LineEnd}
-use Rattle.shift.specs.declared.faults.Cause.TheVariants.{Key}
+use Rattle.shift.specs.declared.faults.Cause.TheVariants.{Key, Long}
 use Rattle.shift.specs.declared.faults.TextFault.{TextFault}
 use Rattle.shift.specs.Classes.{is}
 use Rattle.shift.specs.Entries.{after, of_line, rest_of}
 use Rattle.shift.specs.Faults.{at_line}
-use Rattle.shift.specs.Lines.{with_key}
+use Rattle.shift.specs.Lines.{longest, unless_long, with_key}
 use Rattle.shift.specs.Lists.{numbers}
 use Rattle.shift.specs.Parts.{parted}
-use Rattle.shift.specs.Told.{told}
 use Rattle.shift.proofs.Places.{same_pair}
 use Rattle.office.specs.Answers.{beats, beats_by, line_ends, outcome, with_beat}
-use Rattle.office.specs.Coming.{next_line}
 use Rattle.office.specs.Heads.{beat, said}
 use Rattle.office.specs.Shown.{Shown, and_after}
 use Rattle.office.specs.Shown.Shown.{fault}
@@ -79,44 +77,17 @@ module _ (p : Protocol ℕ) (m : Moment ℕ) (n : ℕ) (t : List ℕ) where
   pub first_beat : (eqb (length t) 0 ≡ false) → beats p m n t ≡ with_beat p m (beat n t) rest
   first_beat some = by (parted (is LineEnd) t) refl some
 
-  -- nothing comes of an empty text
-  pub no_beat : (eqb (length t) 0 ≡ true) → beats p m n t ≡ []
-  no_beat none = go t none
-    where
-      go : (t : List ℕ) → eqb (length t) 0 ≡ true → beats p m n t ≡ []
-      go [] e = refl
-      go (b ∷ bs) e = absurd (omega (arith, eqb-true (length (b ∷ bs)) 0 e))
-
-  -- a line that is due says what is heard in a beat, or what is wrong with it
-  some_line : {X : Type 0} (b : Bool) (r : Result X TextFault) (x : X) → Ok (Some x) ≡ cond b (Ok None) (told Some r) → (b ≡ false) × (r ≡ Ok x)
-  some_line true r x e = cc
-  some_line false (Ok y) x e = (refl, cc)
-  some_line false (Err f) x e = cc
-
-  fault_line : {X : Type 0} (b : Bool) (r : Result X TextFault) (f : TextFault) → Err f ≡ cond b (Ok None) (told Some r) → (b ≡ false) × (r ≡ Err f)
-  fault_line true r f e = cc
-  fault_line false (Ok y) f e = cc
-  fault_line false (Err g) f e = (refl, cc)
-
-  no_line : {X : Type 0} (b : Bool) (r : Result X TextFault) → Ok None ≡ cond b (Ok None) (told Some r) → b ≡ true
-  no_line true r e = refl
-  no_line false (Ok y) e = cc
-  no_line false (Err f) e = cc
-
-  heard_next : (heard : List ℕ) → Ok (Some heard) ≡ next_line n t → beats p m n t ≡ and_after (outcome p m heard).0 (rest (outcome p m heard).1)
-  heard_next heard e =
-      let line = some_line (eqb (length t) 0) (beat n t) heard e in
-      first_beat line.0 ∙ ap (λ r. with_beat p m r rest) line.1
-
-  pub fault_next : (f : TextFault) → Err f ≡ next_line n t → beats p m n t ≡ fault f ∷ []
-  fault_next f e =
-      let line = fault_line (eqb (length t) 0) (beat n t) f e in
-      first_beat line.0 ∙ ap (λ r. with_beat p m r rest) line.1
-
-  pub end_next : Ok None ≡ next_line n t → beats p m n t ≡ []
-  end_next e = no_beat (no_line (eqb (length t) 0) (beat n t) e)
+-- the lines of a text that is not too long, of which something is left
+module _ (p : Protocol ℕ) (m : Moment ℕ) (n : ℕ) (t text : List ℕ) (short : nat_le (length text) longest ≡ true) (some : false ≡ eqb (length t) 0) where
+  line : {X : Type 0} (r : Result X TextFault) (x : Result X TextFault) → x ≡ unless_long text r → r ≡ x
+  line r x e = sym (e ∙ ap (λ b. cond b r (Err (at_line Long 1))) short)
 
   -- what a line with heard sets shows, and what is then left, in the state that a step leaves
-  pub heard_leaves : (heard : List ℕ) (event : Option Shown) (p' : Protocol ℕ) (m' : Moment ℕ) (n' : ℕ) (t' : List ℕ) → Ok (Some heard) ≡ next_line n t → event ≡ (outcome p m heard).0 → p' ≡ p
-      → m' ≡ (outcome p m heard).1 → n' ≡ n + 1 → t' ≡ after t → beats p m n t ≡ and_after event (beats p' m' n' t')
-  heard_leaves heard event p' m' n' t' e a b c d f = rw (a, b, c, d, f) (heard_next heard e)
+  pub heard_leaves : (heard : List ℕ) (event : Option Shown) (p' : Protocol ℕ) (m' : Moment ℕ) (n' : ℕ) (t' : List ℕ) → Ok heard ≡ unless_long text (beat n t) → event ≡ (outcome p m heard).0 → p' ≡ p → m' ≡ (outcome p m heard).1
+      → n' ≡ n + 1 → t' ≡ after t → beats p m n t ≡ and_after event (beats p' m' n' t')
+  heard_leaves heard event p' m' n' t' e a b c d f =
+      rw (a, b, c, d, f) (first_beat p m n t (sym some) ∙ ap (λ r. with_beat p m r (λ m'. beats p m' (n + 1) (after t))) (line (beat n t) (Ok heard) e))
+
+  -- and what one does that is no beat
+  pub fault_next : (f : TextFault) → Err f ≡ unless_long text (beat n t) → beats p m n t ≡ fault f ∷ []
+  fault_next f e = first_beat p m n t (sym some) ∙ ap (λ r. with_beat p m r (λ m'. beats p m' (n + 1) (after t))) (line (beat n t) (Err f) e)

@@ -38,5 +38,6 @@ abbrev pub proposals_of : Result Begun TextFault → List ℕ
 proposals_of (Ok h) = h.proposals
 proposals_of (Err f) = []
 
+-- those of its head, even where the text is too long
 abbrev pub proposals : List ℕ → List ℕ
 proposals text = proposals_of (head 1 text)

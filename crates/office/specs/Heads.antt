@@ -49,12 +49,12 @@ at_spot s (Err f) = Err (at_run f s)
 abbrev pub roster : ℕ → List ℕ → Result ℕ TextFault
 roster n t = and_then (due (codes "boxes") n t) (λ p. and_then (valued number p) (λ b. at_spot p.2 (judged b)))
 
--- so many lines `setup`
+-- k lines `setup`
 abbrev pub setups : ℕ → ℕ → List ℕ → Result (List ℕ) TextFault
 setups zero n t = Ok []
 setups (suc k) n t = and_then (field (codes "setup") number n t) (λ s. and_then (setups k (n + 1) (after t)) (λ ss. Ok (s ∷ ss)))
 
--- what is left of a text after so many lines
+-- what is left of a text after k lines
 abbrev pub past : ℕ → List ℕ → List ℕ
 past zero t = t
 past (suc k) t = past k (after t)

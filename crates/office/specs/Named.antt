@@ -1,5 +1,6 @@
 -- The rule and the procedure that a text's names ask for. Assumes nothing.
 use Rattle.std.specs.Prelude.{ℕ, Bool}
+use Rattle.quorum.specs.Chosen.{clear_of, family_of}
 use Rattle.quorum.specs.Families.{anchored, at_least, majority, present, sizes, thirds}
 use Rattle.quorum.specs.Rules.{Family}
 use Rattle.setup.specs.Kinds.{number_before}
@@ -13,8 +14,6 @@ use Rattle.shift.specs.declared.names.RuleName.{RuleName}
 use Rattle.shift.specs.declared.names.RuleName.TheVariants as rule
 use Rattle.office.specs.declared.named_procedure.NamedProcedure.{NamedProcedure}
 use Rattle.office.specs.declared.named_procedure.NamedProcedure.TheVariants.{Fast, Observing, Latest}
-use Rattle.office.specs.declared.named_rule.NamedRule.{NamedRule}
-use Rattle.office.specs.declared.named_rule.NamedRule.TheVariants.{Majority, Thirds, Anchored}
 
 -- the quorums of n boxes under the rule of that name: anchored stands on box 0, over majority
 abbrev pub rule_by : RuleName → ℕ → Family
@@ -38,19 +37,8 @@ over procedure.Latest f clear = latest number_before f
 abbrev pub asked_for : RuleName → ProcedureName → ℕ → Protocol ℕ
 asked_for r p n = over p (rule_by r n) (clear_by r n)
 
--- ---- what the code's values mean
-
-abbrev pub family : NamedRule → Family
-family (Majority r) = majority r.rule.roster.boxes
-family (Thirds r) = sizes r.roster.boxes r.quorum
-family (Anchored r) = anchored r.rule.anchor (majority r.rule.rule.roster.boxes)
-
-abbrev pub clear_of : NamedRule → ℕ → Bool
-clear_of (Majority r) = present (family (Majority r))
-clear_of (Thirds r) = at_least r.roster.boxes r.clear
-clear_of (Anchored r) = present (family (Anchored r))
-
+-- the procedure that a value of the code means
 abbrev pub meant : NamedProcedure → Protocol ℕ
-meant (Fast x) = over procedure.Fast (family x.rule) (clear_of x.rule)
-meant (Observing x) = over procedure.Observing (family x.rule) (clear_of x.rule)
-meant (Latest x) = over procedure.Latest (family x.rule) (clear_of x.rule)
+meant (Fast x) = over procedure.Fast (family_of x.rule) (clear_of x.rule)
+meant (Observing x) = over procedure.Observing (family_of x.rule) (clear_of x.rule)
+meant (Latest x) = over procedure.Latest (family_of x.rule) (clear_of x.rule)

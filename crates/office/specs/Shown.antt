@@ -1,5 +1,5 @@
 -- What is shown of a shift, one thing after another. Assumes nothing.
-use Rattle.std.specs.Prelude.{ℕ, List, ◌∷◌, Some, None, Option}
+use Rattle.std.specs.Prelude.{ℕ, List, [], ◌∷◌, Some, None, Option}
 use Rattle.quorum.specs.declared.refusals.Refusal.{Refusal}
 use Rattle.shift.specs.declared.faults.TextFault.{TextFault}
 
@@ -15,3 +15,8 @@ pub data Shown : Type 0 where
 abbrev pub and_after : Option Shown → List Shown → List Shown
 and_after None es = es
 and_after (Some e) es = e ∷ es
+
+-- the first of them, if there is one
+abbrev pub first_of : List Shown → Option Shown
+first_of [] = None
+first_of (e ∷ es) = Some e

@@ -2,6 +2,7 @@
 ghost use Rattle.std.specs.Prelude.{◌≡◌, true};
 ghost use Rattle.office.specs.Stages.{within_limit};
 
+use crate::signs::Sign;
 use crate::work::Work;
 use shift::faults::TextFault;
 use shift::reader::Reader;
@@ -19,10 +20,11 @@ enum Stage {
     Done,
 }
 
-// The text, as far as it is read, and the run that it asks for. Nothing is allocated.
+// The text, as far as it is read, the run that it asks for, and what is shown at this place of the answer. Nothing is allocated.
 #[derive(Drop)]
 pub struct Answer<'a> {
     reader: Reader<'a>,
     stage: Stage,
+    sign: Option<Sign>,
     ghost short: { within_limit stage reader.text.now ≡ true },
 }

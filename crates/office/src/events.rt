@@ -9,24 +9,24 @@ use shift::faults::TextFault;
 use std::fmt;
 
 // A phase that was finished: its number, and of each box what it voted for in it, and what it holds.
-#[derive(Debug, PartialEq, Drop)]
-pub struct Phase {
+#[derive(Clone, Copy)]
+pub struct Phase<'a> {
     pub number: u32,
-    pub votes: Row,
-    pub held: Row,
+    pub votes: Row<'a>,
+    pub held: Row<'a>,
 }
 
-#[derive(Debug, PartialEq, Drop)]
-pub enum Event {
+#[derive(Clone, Copy)]
+pub enum Event<'a> {
     // a beat that the run declined, and why
     Declined(Refusal),
-    Phase(Phase),
+    Phase(Phase<'a>),
     // the fault that ends the reading
     Fault(TextFault),
 }
 
 // The lines, without the last line end.
-impl fmt::Display for Event {
+impl fmt::Display for Event<'_> {
     ghost output = { λ event. Some (lines_of (shown_as event)) };
 
     fn fmt<W: fmt::Write>(&self, f: &mut fmt::Formatter<W>) -> fmt::Result {

@@ -8,4 +8,5 @@ mod named_procedure;
 mod named_rule;
 pub mod printouts;
 pub mod rows;
+mod signs;
 mod work;

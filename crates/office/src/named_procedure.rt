@@ -1,28 +1,29 @@
 // The procedure that a text asks for, by its name, over the rule that it asks for.
 ghost use Rattle.std.specs.Prelude.{◌≡◌};
 ghost use Rattle.office.specs.Laws.{procedure_lawful};
-ghost use Rattle.office.specs.Named.{clear_of, family, meant, over};
+ghost use Rattle.office.specs.Named.{meant, over};
+ghost use Rattle.quorum.specs.Chosen.{clear_of, family_of};
 
-use crate::named_rule::NamedRule;
 use agreement::procedures::Procedure;
 use agreement::slips::Slip;
 use procedures::fast::Fast;
 use procedures::latest::Latest;
 use procedures::observing::Observing;
+use quorum::chosen::ChosenRule;
 use quorum::sets::BoxSet;
 use shift::names::ProcedureName;
 
 #[derive(Clone, Copy)]
 pub(crate) enum NamedProcedure {
-    Fast(Fast<NamedRule>),
-    Observing(Observing<NamedRule>),
-    Latest(Latest<NamedRule>),
+    Fast(Fast<ChosenRule>),
+    Observing(Observing<ChosenRule>),
+    Latest(Latest<ChosenRule>),
 }
 
 impl NamedProcedure {
     // The procedure of that name over the rule.
-    pub(crate) fn new(name: ProcedureName, rule: NamedRule) -> NamedProcedure
-        ensures { meant result ≡ over name (family rule) (clear_of rule) }
+    pub(crate) fn new(name: ProcedureName, rule: ChosenRule) -> NamedProcedure
+        ensures { meant result ≡ over name (family_of rule) (clear_of rule) }
     {
         match name {
             ProcedureName::Fast => NamedProcedure::Fast(Fast::new(rule)),
@@ -33,23 +34,17 @@ impl NamedProcedure {
 }
 
 impl Procedure<u32> for NamedProcedure {
+    type Over = ChosenRule;
+
     ghost meaning = { meant };
 
     ghost lawful = { procedure_lawful };
 
-    fn boxes(&self) -> usize {
+    fn rule(&self) -> &ChosenRule {
         match self {
-            NamedProcedure::Fast(x) => Procedure::<u32>::boxes(x),
-            NamedProcedure::Observing(x) => Procedure::<u32>::boxes(x),
-            NamedProcedure::Latest(x) => Procedure::<u32>::boxes(x),
-        }
-    }
-
-    fn is_quorum(&self, set: BoxSet) -> bool {
-        match self {
-            NamedProcedure::Fast(x) => Procedure::<u32>::is_quorum(x, set),
-            NamedProcedure::Observing(x) => Procedure::<u32>::is_quorum(x, set),
-            NamedProcedure::Latest(x) => Procedure::<u32>::is_quorum(x, set),
+            NamedProcedure::Fast(x) => Procedure::<u32>::rule(x),
+            NamedProcedure::Observing(x) => Procedure::<u32>::rule(x),
+            NamedProcedure::Latest(x) => Procedure::<u32>::rule(x),
         }
     }
 

@@ -5,6 +5,7 @@ ghost use Rattle.office.specs.Printed.{printed};
 
 use crate::answers::Answer;
 use std::fmt;
+use std::fmt::Display;
 
 // A shift's text, printed as the answer to it.
 #[derive(Clone, Copy)]
@@ -26,8 +27,11 @@ impl fmt::Display for Printout<'_> {
 
     #[tactic(auto, using(crate::proofs::Printing::turns))]
     fn fmt<W: fmt::Write>(&self, f: &mut fmt::Formatter<W>) -> fmt::Result {
-        for event in Answer::new(self.text) {
-            writeln!(f, "{event}")?;
+        let mut answer = Answer::new(self.text);
+        while let Some(event) = answer.event() {
+            event.fmt(f)?;
+            f.write_str("\n")?;
+            answer.advance();
         }
         Ok(())
     }

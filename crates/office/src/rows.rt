@@ -1,61 +1,59 @@
 // Rows of setups, one entry for each box, as they are shown.
-ghost use Rattle.std.specs.Prelude.{◌≡◌, ◌≤◌, length, map, Some};
+ghost use Rattle.std.specs.Prelude.{◌≡◌, Some, length, map};
+ghost use Rattle.setup.specs.Rows.{entry};
+ghost use Rattle.office.specs.Events.{entries, part_of};
 ghost use Rattle.office.specs.Printed.{cell_text, row_text};
 
 use agreement::slips::Slip;
-use arrayvec::ArrayVec;
-use quorum::sets::MAX_BOXES;
-use setup::search::Field;
 use std::fmt;
+use std::fmt::Display;
 
-// A setup or none for each box.
-#[derive(Debug, PartialEq, Drop)]
-pub struct Row {
-    setups: ArrayVec<Option<u32>, MAX_BOXES>,
-}
-
-// What a box voted for in the phase just finished.
+// What is shown of each box.
 #[derive(Clone, Copy)]
-pub(crate) struct Cast;
-
-impl Field<Slip<u32>, u32> for Cast {
-    ghost reads = { λ _ slip. slip.cast };
-
-    fn read(&self, slip: &Slip<u32>) -> Option<u32> {
-        slip.cast
-    }
+pub(crate) enum Column {
+    // what it voted for in the phase just finished
+    Cast,
+    // what it holds
+    Held,
 }
 
-// What it holds.
-#[derive(Clone, Copy)]
-pub(crate) struct Held;
-
-impl Field<Slip<u32>, u32> for Held {
-    ghost reads = { λ _ slip. slip.held };
-
-    fn read(&self, slip: &Slip<u32>) -> Option<u32> {
-        slip.held
-    }
-}
-
-impl Row {
-    // One field of every slip.
-    pub(crate) fn of<F: Field<Slip<u32>, u32>>(field: &F, table: &[Slip<u32>]) -> Row
-        requires { length table.now ≤ 32 }
-        ensures { result.setups.items ≡ map (F.Field.reads field.now) table.now }
+impl Column {
+    fn read(self, slip: &Slip<u32>) -> Option<u32>
+        ensures { result ≡ part_of self slip.now }
     {
-        let mut setups = ArrayVec::new();
-        for slip in table {
-            setups.push(field.read(slip));
+        match self {
+            Column::Cast => slip.cast,
+            Column::Held => slip.held,
         }
-        Row { setups }
+    }
+}
+
+// A setup or none for each box, as its slip in the table has it.
+#[derive(Clone, Copy)]
+pub struct Row<'a> {
+    column: Column,
+    table: &'a [Slip<u32>],
+}
+
+impl<'a> Row<'a> {
+    pub(crate) fn new(column: Column, table: &'a [Slip<u32>]) -> Row<'a>
+        ensures { entries result ≡ map (part_of column) table.entry.now }
+    {
+        Row { column, table }
     }
 
-    // The entries, box by box.
-    pub fn as_slice(&self) -> &[Option<u32>]
-        ensures { result.now ≡ self.now.setups.items }
+    // How many boxes there are.
+    pub fn boxes(&self) -> usize
+        ensures { result ≡ length (entries self.now) }
     {
-        self.setups.as_slice()
+        self.table.len()
+    }
+
+    // The setup of a box: none where it has none, and where there is no such box.
+    pub fn setup(&self, i: usize) -> Option<u32>
+        ensures { result ≡ entry (entries self.now) i }
+    {
+        self.column.read(self.table.get(i)?)
     }
 }
 
@@ -68,26 +66,25 @@ impl fmt::Display for Cell {
 
     fn fmt<W: fmt::Write>(&self, f: &mut fmt::Formatter<W>) -> fmt::Result {
         match self.0 {
-            Some(setup) => write!(f, "{setup}"),
+            Some(setup) => setup.fmt(f),
             None => f.write_str("-"),
         }
     }
 }
 
 // The entries with commas between.
-impl fmt::Display for Row {
-    ghost output = { λ row. Some (row_text row.setups.items) };
+impl fmt::Display for Row<'_> {
+    ghost output = { λ row. Some (row_text (entries row)) };
 
     #[tactic(auto, using(crate::proofs::Written::turns))]
     fn fmt<W: fmt::Write>(&self, f: &mut fmt::Formatter<W>) -> fmt::Result {
-        let Some((first, more)) = self.setups.as_slice().split_first() else {
+        let Some((first, more)) = self.table.split_first() else {
             return Ok(());
         };
-        let first = Cell(*first);
-        write!(f, "{first}")?;
-        for entry in more {
-            let cell = Cell(*entry);
-            write!(f, ",{cell}")?;
+        Cell(self.column.read(first)).fmt(f)?;
+        for slip in more {
+            f.write_str(",")?;
+            Cell(self.column.read(slip)).fmt(f)?;
         }
         Ok(())
     }

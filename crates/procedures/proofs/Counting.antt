@@ -1,5 +1,5 @@
 -- The search for the setup that most sent: what is counted, turn by turn, and what it comes to. Assumes nothing.
-use Rattle.std.proofs.Common.{◌≡◌, ℕ, Bool, true, false, cond, List, map, Some, None, Option, bit_or, sym, refl, ap, ◌∙◌, subst}
+use Rattle.std.proofs.Common.{◌≡◌, ℕ, ◌^◌, ◌<◌, Bool, true, false, cond, List, map, Some, None, Option, bit_or, sym, refl, ap, ◌∙◌, subst}
 use Rattle.quorum.specs.Sets.{count}
 use Rattle.quorum.specs.Walking.{Lowest, without}
 use Rattle.quorum.proofs.Somes.{some_is, some_none}
@@ -10,7 +10,7 @@ use Rattle.setup.proofs.Searching.{Least, chain, least, least_one, one_way}
 use Rattle.agreement.specs.Slips.{Stands}
 use Rattle.procedures.specs.Laws.Received.{counted_entry, dates}
 use Rattle.procedures.specs.Received.{counted}
-use Rattle.procedures.proofs.Trying.{Seen, all_seen, box_skipped, fresh_sent, nothing_seen, setup_tried, untried}
+use Rattle.procedures.proofs.Trying.{Seen, all_seen, all_senders, box_skipped, fresh_sent, not_tried, nothing_seen, setup_tried, untried}
 
 module _ {V : Type 0} {before : V → V → Bool} (o : Ordered before) where
   -- the pair does not come before the best so far
@@ -43,7 +43,7 @@ module _ {V : Type 0} {before : V → V → Bool} (o : Ordered before) where
 
   module _ (row : List (Option V)) (heard : ℕ) where
     abbrev r : List (Option V)
-    r = among row heard 0
+    r = among row heard
 
     abbrev D : (ℕ × V) → (ℕ × V) → Bool
     D = dated_before before
@@ -51,7 +51,7 @@ module _ {V : Type 0} {before : V → V → Bool} (o : Ordered before) where
     -- the best so far stands there, and of all that was seen no box sent a better one
     pub record Counted (left done : ℕ) (most : Option (ℕ × V)) : Type 0 where
       pub stood : (p : ℕ × V) → most ≡ Some p → Stands p (pairs r)
-      pub seen : Seen (NoBetter r most) heard left done
+      pub seen : Seen row heard (NoBetter r most) left done
 
     silent : (most : Option (ℕ × V)) (m : ℕ) → entry r m ≡ None → NoBetter r most m
     silent most m none q f = absurd (some_none (sym f ∙ counted_entry before r m ∙ ap (counted before r) none))
@@ -63,22 +63,25 @@ module _ {V : Type 0} {before : V → V → Bool} (o : Ordered before) where
       pub turn_keeps : y ≡ None → Counted left done most → Counted t done most
       turn_keeps none c = record { stood = c.stood; seen = box_skipped row heard left t i done low (NoBetter r most) y fresh none (silent most i) c.seen }
 
-      pub turn_counts : (v : V) (senders k next : ℕ) (best : Option (ℕ × V)) → y ≡ Some v → senders ≡ boxes_with before v r → k ≡ count senders → best ≡ sooner D most (Some (k, v)) → next ≡ bit_or done senders
+      pub turn_counts : (v : V) (senders k next : ℕ) (best : Option (ℕ × V)) → heard < 2 ^ 32 → done < 2 ^ 32 → y ≡ Some v → senders ≡ boxes_with before v (among row (not_tried heard done)) → k ≡ count senders → best ≡ sooner D most (Some (k, v)) → next ≡ bit_or done senders
           → Counted left done most → Counted t next best
-      turn_counts v senders k next best e found size better joins c =
+      turn_counts v senders k next best few fits e found size better joins c =
           subst (Counted t next) (sym (better ∙ ap (λ (n : ℕ). sooner D most (Some (n, v))) is)) (record {
             stood = stood most c.stood;
-            seen = setup_tried row heard left t i done low o (NoBetter r most) (NoBetter r (sooner D most (Some p))) y v senders next fresh e found joins (λ m old q f. behind_old q p most (old q f)) behind_it c.seen;
+            seen = setup_tried row heard left t i done low o (NoBetter r most) (NoBetter r (sooner D most (Some p))) y v senders next fresh e all joins (λ m old q f. behind_old q p most (old q f)) behind_it c.seen;
           })
         where
           p : ℕ × V
           p = (count (boxes_with before v r), v)
 
+          all : senders ≡ boxes_with before v r
+          all = found ∙ all_senders row heard left t i done low o (NoBetter r most) y v fresh e few fits c.seen
+
           is : k ≡ count (boxes_with before v r)
-          is = size ∙ ap count found
+          is = size ∙ ap count all
 
           sent : entry r i ≡ Some v
-          sent = fresh_sent row heard left t i done low c.seen.part y v fresh e
+          sent = (fresh_sent row heard left t i done low c.seen.part y v fresh e).0
 
           -- the pair of a sender of v
           pair : (m : ℕ) → entry r m ≡ Some v → entry (pairs r) m ≡ Some p

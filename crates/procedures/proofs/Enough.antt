@@ -26,7 +26,7 @@ module _ {A V : Type 0} {before : V → V → Bool} (o : Ordered before) (f : Fa
 
   module _ (field : A → Option V) where
     abbrev row : List (Option V)
-    row = among (map field table) s 0
+    row = among (map field table) s
 
     -- the senders of v
     pub enough_sent : (v : V) → f.quorum (boxes_with before v row) ≡ p (times before v (messages field table s 0))

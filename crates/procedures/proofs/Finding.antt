@@ -15,17 +15,17 @@ use Rattle.procedures.specs.Laws.Received.{backed_is_backed, heard_entry, most_o
 use Rattle.procedures.specs.Received.{IsBacked, IsMostOften, IsUnanimous, backed, backer, elects, most_often, senders, unanimous}
 
 module _ {V : Type 0} {before : V → V → Bool} (o : Ordered before) (row : List (Option V)) (heard : ℕ) (x : Option V) where
-  pub backed_law : (f : Family) (others : ℕ) → x ≡ backed f before others (among row heard 0) → IsBacked f before others (among row heard 0) x
-  backed_law f others e = subst (IsBacked f before others (among row heard 0)) (sym e) (backed_is_backed o f others (among row heard 0))
+  pub backed_law : (f : Family) (others : ℕ) → x ≡ backed f before others (among row heard) → IsBacked f before others (among row heard) x
+  backed_law f others e = subst (IsBacked f before others (among row heard)) (sym e) (backed_is_backed o f others (among row heard))
 
-  pub unanimous_law : x ≡ unanimous before heard (among row heard 0) → IsUnanimous before heard (among row heard 0) x
-  unanimous_law e = subst (IsUnanimous before heard (among row heard 0)) (sym e) (unanimous_is_unanimous o heard row)
+  pub unanimous_law : x ≡ unanimous before heard (among row heard) → IsUnanimous before heard (among row heard) x
+  unanimous_law e = subst (IsUnanimous before heard (among row heard)) (sym e) (unanimous_is_unanimous o heard row)
 
 -- ---- a unanimous setup
 
 module _ {V : Type 0} {before : V → V → Bool} (o : Ordered before) (row : List (Option V)) (heard : ℕ) where
   abbrev r : List (Option V)
-  r = among row heard 0
+  r = among row heard
 
   -- where all sent w, each box that was heard did
   each_sent : (w : V) → senders before w r ≡ heard → (i : ℕ) → has heard i ≡ true → entry row i ≡ Some w
@@ -56,11 +56,11 @@ module _ {V : Type 0} {before : V → V → Bool} (o : Ordered before) (row : Li
   unanimous_found x y one e = e ∙ one_unanimous _ _ (sent_by_all y one) (unanimous_is_unanimous o heard row)
 
 -- what the box sent that was found
-pub backed_read : {V : Type 0} (row : List (Option V)) (heard : ℕ) (f : Family) (before : V → V → Bool) (others i : ℕ) (y : Option V) → y ≡ entry row i → backer f before others (among row heard 0) ≡ Some i → y ≡ backed f before others (among row heard 0)
+pub backed_read : {V : Type 0} (row : List (Option V)) (heard : ℕ) (f : Family) (before : V → V → Bool) (others i : ℕ) (y : Option V) → y ≡ entry row i → backer f before others (among row heard) ≡ Some i → y ≡ backed f before others (among row heard)
 backed_read {V} row heard f before others i y read found = read ∙ heard_it (cases_Bool (has heard i)) ∙ sym (ap (option_and_then (entry r)) found)
   where
     r : List (Option V)
-    r = among row heard 0
+    r = among row heard
 
     elected : elects f before others r (entry r i) ≡ true
     elected = let law = subst (IsLowest (λ m. elects f before others r (entry r m)) (length r)) found (lowest_is_lowest _ (length r)) in law.1

@@ -10,7 +10,7 @@ use Rattle.quorum.specs.Members.{has_below}
 use Rattle.quorum.specs.Sets.{count, has}
 use Rattle.quorum.proofs.Somes.{some_none}
 use Rattle.setup.specs.Orders.{Ordered}
-use Rattle.setup.specs.Rows.{among, boxes_with, entry, first, is}
+use Rattle.setup.specs.Rows.{among, among_at, boxes_with, entry, first, is}
 use Rattle.setup.proofs.Searching.{Least, least}
 use Rattle.book.specs.Voting.{Unanimous}
 use Rattle.agreement.specs.Slips.{Stands}
@@ -66,7 +66,7 @@ length_messages send table s small = let all : s / 2 ^ 0 ≡ s = omega arith in 
 
 -- v is among those from process i on as often as it has senders there
 times_from : {A V : Type 0} (before : V → V → Bool) (v : V) (field : A → Option V) (table : List A) (s i : ℕ)
-    → times before v (messages field table s i) ≡ count (boxes_with before v (among (map field table) s i))
+    → times before v (messages field table s i) ≡ count (boxes_with before v (among_at (map field table) s i))
 times_from before v field [] s i = sym (omega (arith, ones-le 0 0 (omega arith)))
 times_from {A} {V} before v field (x ∷ table) s i = go (has s i) (times_from before v field table s (i + 1))
   where
@@ -74,7 +74,7 @@ times_from {A} {V} before v field (x ∷ table) s i = go (has s i) (times_from b
     rest = messages field table s (i + 1)
 
     row : List (Option V)
-    row = among (map field table) s (i + 1)
+    row = among_at (map field table) s (i + 1)
 
     go : (b : Bool) → times before v rest ≡ count (boxes_with before v row) → times before v (cond b (field x ∷ rest) rest) ≡ count (boxes_with before v (cond b (field x) None ∷ row))
     go true same = ap (λ (c : ℕ). cond (is before v (field x)) 1 0 + c) same ∙ sym (count_next (is before v (field x)) (boxes_with before v row))
@@ -82,7 +82,7 @@ times_from {A} {V} before v field (x ∷ table) s i = go (has s i) (times_from b
 
 -- so it reaches a process as often as it has senders
 pub times_messages : {A V : Type 0} (before : V → V → Bool) (v : V) (field : A → Option V) (table : List A) (s : ℕ)
-    → times before v (messages field table s 0) ≡ count (boxes_with before v (among (map field table) s 0))
+    → times before v (messages field table s 0) ≡ count (boxes_with before v (among (map field table) s))
 times_messages before v field table s = times_from before v field table s 0
 
 -- ---- which there are
@@ -142,12 +142,12 @@ module _ {A W : Type 0} (field : A → Option W) where
 
   module _ (w : W) (table : List A) (s : ℕ) where
     -- so what reaches a process stands in what was received, and the other way round
-    pub reached_stands : Stands w (messages field table s 0) → Stands w (among (map field table) s 0)
+    pub reached_stands : Stands w (messages field table s 0) → Stands w (among (map field table) s)
     reached_stands stood =
         let m = message_from table s 0 stood.0 (entry_inside (messages field table s 0) stood.0 w stood.1) in
         (m.0, heard_entry (map field table) s m.0 (ap (has s) (sym (zero-add m.0)) ∙ m.2) ∙ m.3 ∙ stood.1)
 
-    pub stands_reached : Stands w (among (map field table) s 0) → Stands w (messages field table s 0)
+    pub stands_reached : Stands w (among (map field table) s) → Stands w (messages field table s 0)
     stands_reached stood =
         let at = sent (map field table) s stood.0 w stood.1 in
         let inside : stood.0 < length table = subst (λ (n : ℕ). stood.0 < n) (length-map table field) (entry_inside (map field table) stood.0 w at.1) in
@@ -166,7 +166,7 @@ module _ {A W : Type 0} (field : A → Option W) where
 module _ {V : Type 0} {before : V → V → Bool} (o : Ordered before) {A : Type 0} (field : A → Option V) (table : List A) (s : ℕ) where
   -- the row of what was received, and the messages
   abbrev row : List (Option V)
-  row = among (map field table) s 0
+  row = among (map field table) s
 
   abbrev reached : List (Option V)
   reached = messages field table s 0

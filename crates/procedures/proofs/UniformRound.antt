@@ -12,7 +12,7 @@ use Rattle.agreement.specs.declared.slips.Slip.{Slip}
 use Rattle.agreement.specs.Slips.{Stands}
 use Rattle.procedures.specs.Observing.{next, observed, readied}
 use Rattle.procedures.specs.Published.Messages.{AllEqual, Smallest, messages}
-use Rattle.procedures.specs.Published.UniformVoting.{Agreeing, Follows, Observing, Round, candidates as candidates_of, process}
+use Rattle.procedures.specs.Published.UniformVoting.{Agreeing, Deciding, Follows, Round, candidates as candidates_of, process}
 use Rattle.procedures.specs.Received.{own, received, say, unanimous}
 use Rattle.procedures.specs.Laws.Received.{there_is_none, unanimous_sent}
 use Rattle.procedures.specs.Laws.Sent.{own_stands, unanimous_all}
@@ -56,8 +56,8 @@ module _ {V : Type 0} {before : V → V → Bool} (o : Ordered before) (f : Fami
   abbrev stands_for : Option V → V
   stands_for x = unwrap_or (option_or x (first before (received own table heard))) slip.own
 
-  observing : Observing before pairs (process slip) (process (observed before heard (received say table heard) (received own table heard) slip))
-  observing = record {
+  deciding : Deciding before pairs (process slip) (process (observed before heard (received say table heard) (received own table heard) slip))
+  deciding = record {
     observes = λ v stood.
         let found = some_first o say table heard v (subst (Stands v) votes stood) in
         subst (λ (l : List (Option V)). Stands (stands_for (first before (received say table heard))) l) (sym votes)
@@ -85,5 +85,5 @@ follows_uniform {V} {before} o f law b slip new heard table made = subst (Follow
 
     go : (b : ℕ) → length table ≡ f.boxes → f.quorum heard ≡ true → Round before b slip heard table (next before b heard table slip)
     go zero = agreeing o f law slip heard table
-    go (suc zero) = observing o f law slip heard table
+    go (suc zero) = deciding o f law slip heard table
     go (suc (suc b)) = λ long quorum. tt

@@ -11,7 +11,7 @@ use Rattle.agreement.specs.Slips.{Stands}
 
 -- what the boxes that were heard sent, a field of their slips
 abbrev pub received : {V W : Type 0} → (Slip V → Option W) → List (Slip V) → ℕ → List (Option W)
-received field table heard = among (map field table) heard 0
+received field table heard = among (map field table) heard
 
 -- the fields that are sent
 abbrev pub own : {V : Type 0} → Slip V → Option V

@@ -3,7 +3,7 @@ ghost use Rattle.std.specs.Prelude.{◌≡◌, true};
 ghost use Rattle.procedures.specs.Fast.{AtMostOne, fast, favourite as favourite_of, polled};
 ghost use Rattle.procedures.specs.Laws.Fast.{fast_lawful};
 ghost use Rattle.procedures.specs.Published.OneThirdRule.{Follows};
-ghost use Rattle.procedures.specs.Received.{own, received, unheard as boxes_unheard};
+ghost use Rattle.procedures.specs.Received.{backed as backed_by, own, received, unheard as boxes_unheard};
 
 use crate::fields::Own;
 use crate::received::{backed, most_often};
@@ -34,13 +34,19 @@ impl<R: ClearView> Fast<R> {
         Fast { rule }
     }
 
-    // What a box votes for that heard a clear set.
-    fn favourite<V: Setup>(&self, heard: BoxSet, table: &[Slip<V>]) -> Option<V>
-        requires { R.ClearView.clear self.now.rule heard ≡ true }
+    // What a box votes for that heard a clear set, and what a quorum sent: where it heard all boxes the two are the same search.
+    fn favourite<V: Setup>(&self, heard: BoxSet, table: &[Slip<V>], news: Option<V>) -> Option<V>
+        requires clear { R.ClearView.clear self.now.rule heard ≡ true }
+        requires sent { news ≡ backed_by (R.Rule.family self.now.rule) V.Setup.before 0 (received own table.now heard) }
         ensures { result ≡ favourite_of (R.Rule.family self.now.rule) V.Setup.before heard (received own table.now heard) }
     {
         let unheard = unheard(&self.rule, heard);
-        backed(&self.rule, &Own, table, heard, unheard).or_else(|| most_often(&Own, table, heard))
+        let possible = if unheard == 0 {
+            news
+        } else {
+            backed(&self.rule, &Own, table, heard, unheard)
+        };
+        possible.or_else(|| most_often(&Own, table, heard))
     }
 
     // It casts what it stood for, what a quorum sent is news, and where it heard a clear set it stands for the favourite.
@@ -48,12 +54,12 @@ impl<R: ClearView> Fast<R> {
     fn poll<V: Setup>(&self, slip: &Slip<V>, heard: BoxSet, table: &[Slip<V>]) -> Slip<V>
         ensures { result ≡ polled (R.Rule.family self.now.rule) V.Setup.before (R.ClearView.clear self.now.rule) heard (received own table.now heard) slip.now }
     {
+        let news = backed(&self.rule, &Own, table, heard, 0);
         let own = if self.rule.is_clear(heard) {
-            self.favourite(heard, table).unwrap_or(slip.own)
+            self.favourite(heard, table, news).unwrap_or(slip.own)
         } else {
             slip.own
         };
-        let news = backed(&self.rule, &Own, table, heard, 0);
         Slip {
             own,
             ..slip.turned(Some(slip.own), news)
@@ -62,16 +68,14 @@ impl<R: ClearView> Fast<R> {
 }
 
 impl<V: Setup, R: ClearView> Procedure<V> for Fast<R> {
+    type Over = R;
+
     ghost meaning = { λ x. fast V.Setup.before (R.Rule.family x.rule) (R.ClearView.clear x.rule) };
 
     ghost lawful = { λ x. fast_lawful V.Setup.ordered (R.Rule.family x.rule) (R.Rule.lawful x.rule) (R.ClearView.clear x.rule) (R.ClearView.clear_lawful x.rule) };
 
-    fn boxes(&self) -> usize {
-        self.rule.boxes()
-    }
-
-    fn is_quorum(&self, set: BoxSet) -> bool {
-        self.rule.is_quorum(set)
+    fn rule(&self) -> &R {
+        &self.rule
     }
 
     fn beats(&self) -> u8 {

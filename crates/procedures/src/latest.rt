@@ -89,16 +89,14 @@ fn turn<V: Setup, R: Rule>(
 }
 
 impl<V: Setup, R: Rule> Procedure<V> for Latest<R> {
+    type Over = R;
+
     ghost meaning = { λ x. latest V.Setup.before (R.Rule.family x.rule) };
 
     ghost lawful = { λ x. latest_lawful V.Setup.ordered (R.Rule.family x.rule) (R.Rule.lawful x.rule) };
 
-    fn boxes(&self) -> usize {
-        self.rule.boxes()
-    }
-
-    fn is_quorum(&self, set: BoxSet) -> bool {
-        self.rule.is_quorum(set)
+    fn rule(&self) -> &R {
+        &self.rule
     }
 
     fn beats(&self) -> u8 {

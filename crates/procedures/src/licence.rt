@@ -26,7 +26,7 @@ fn standard_rule(boxes: usize) -> Result<StandardRule, RuleFault>
     Anchored::new(Majority::new(boxes)?, 0)
 }
 
-// Opens the standard licence of so many boxes. It keeps the promise, as every run does.
+// Opens the standard licence of this number of boxes. It keeps the promise, as every run does.
 pub fn open<V: Setup>(
     boxes: usize,
     proposals: &[V],

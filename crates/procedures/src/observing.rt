@@ -63,16 +63,14 @@ fn turn<V: Setup>(beat: u8, slip: &Slip<V>, heard: BoxSet, table: &[Slip<V>]) ->
 }
 
 impl<V: Setup, R: Rule> Procedure<V> for Observing<R> {
+    type Over = R;
+
     ghost meaning = { λ x. observing V.Setup.before (R.Rule.family x.rule) };
 
     ghost lawful = { λ x. observing_lawful V.Setup.ordered (R.Rule.family x.rule) (R.Rule.lawful x.rule) };
 
-    fn boxes(&self) -> usize {
-        self.rule.boxes()
-    }
-
-    fn is_quorum(&self, set: BoxSet) -> bool {
-        self.rule.is_quorum(set)
+    fn rule(&self) -> &R {
+        &self.rule
     }
 
     fn beats(&self) -> u8 {

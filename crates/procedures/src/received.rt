@@ -14,7 +14,7 @@ use setup::search::{Field, first, read_at, sooner};
 
 // The smallest of what the boxes sent that were heard.
 pub fn smallest<T, V: Setup, F: Field<T, V>>(field: &F, row: &[T], heard: BoxSet) -> Option<V>
-    ensures value { result ≡ smallest_of V.Setup.before (among (map (F.Field.reads field.now) row.now) heard 0) }
+    ensures value { result ≡ smallest_of V.Setup.before (among (map (F.Field.reads field.now) row.now) heard) }
     ensures law { IsFirst V.Setup.before (map (F.Field.reads field.now) row.now) heard result }
 {
     first(field, row, heard)
@@ -39,14 +39,15 @@ fn backer<R: Rule, T, V: Setup, F: Field<T, V>>(
     heard: BoxSet,
     others: BoxSet,
 ) -> Option<usize>
-    ensures { result ≡ backer_of (R.Rule.family rule.now) V.Setup.before others (among (map (F.Field.reads field.now) row.now) heard 0) }
+    ensures { result ≡ backer_of (R.Rule.family rule.now) V.Setup.before others (among (map (F.Field.reads field.now) row.now) heard) }
 {
     let mut tried = 0;
     'search: {
         for i in each(heard) {
             if let Some(v) = untried(field, row, tried, i) {
                 let mut senders = 0;
-                for j in each(heard) {
+                // a box that was tried sent another setup
+                for j in each(heard & !tried) {
                     if is(v, read_at(field, row, j)) {
                         senders = added(senders, j);
                     }
@@ -70,8 +71,8 @@ pub fn backed<R: Rule, T, V: Setup, F: Field<T, V>>(
     heard: BoxSet,
     others: BoxSet,
 ) -> Option<V>
-    ensures value { result ≡ backed_by (R.Rule.family rule.now) V.Setup.before others (among (map (F.Field.reads field.now) row.now) heard 0) }
-    ensures law { IsBacked (R.Rule.family rule.now) V.Setup.before others (among (map (F.Field.reads field.now) row.now) heard 0) result }
+    ensures value { result ≡ backed_by (R.Rule.family rule.now) V.Setup.before others (among (map (F.Field.reads field.now) row.now) heard) }
+    ensures law { IsBacked (R.Rule.family rule.now) V.Setup.before others (among (map (F.Field.reads field.now) row.now) heard) result }
 {
     read_at(field, row, backer(rule, field, row, heard, others)?)
 }
@@ -85,23 +86,24 @@ fn lowest_sent<T, V: Setup, F: Field<T, V>>(field: &F, row: &[T], heard: BoxSet)
 
 // The setup that all the boxes sent that were heard: what the lowest of them sent, if the others sent it too.
 pub fn unanimous<T, V: Setup, F: Field<T, V>>(field: &F, row: &[T], heard: BoxSet) -> Option<V>
-    ensures value { result ≡ unanimous_in V.Setup.before heard (among (map (F.Field.reads field.now) row.now) heard 0) }
-    ensures law { IsUnanimous V.Setup.before heard (among (map (F.Field.reads field.now) row.now) heard 0) result }
+    ensures value { result ≡ unanimous_in V.Setup.before heard (among (map (F.Field.reads field.now) row.now) heard) }
+    ensures law { IsUnanimous V.Setup.before heard (among (map (F.Field.reads field.now) row.now) heard) result }
 {
     lowest_sent(field, row, heard).filter(|v| all_have(field, row, heard, *v))
 }
 
 // The setup that most of them sent, and of several such the smallest. Each setup is counted once, whichever of its senders comes first.
 pub fn most_often<T, V: Setup, F: Field<T, V>>(field: &F, row: &[T], heard: BoxSet) -> Option<V>
-    ensures value { result ≡ most_often_of V.Setup.before (among (map (F.Field.reads field.now) row.now) heard 0) }
-    ensures law { IsMostOften V.Setup.before (among (map (F.Field.reads field.now) row.now) heard 0) result }
+    ensures value { result ≡ most_often_of V.Setup.before (among (map (F.Field.reads field.now) row.now) heard) }
+    ensures law { IsMostOften V.Setup.before (among (map (F.Field.reads field.now) row.now) heard) result }
 {
     let mut counted = 0;
     // a setup with how many sent it: two such pairs compare as dated votes do, the greater number coming first
     let mut most: Option<(u16, V)> = None;
     for i in each(heard) {
         if let Some(v) = untried(field, row, counted, i) {
-            let senders = boxes_with(field, row, heard, v);
+            // a box that was counted sent another setup
+            let senders = boxes_with(field, row, heard & !counted, v);
             most = sooner(most, Some((size(senders) as u16, v)));
             counted |= senders;
         }

@@ -15,7 +15,7 @@ module _ (s : ℕ) (some : 0 < s) (few : s < 2 ^ 32) where
   pub lowest_found : Lowest s (count_trailing_zeros 32 s)
   lowest_found =
       let found = bit_at-trailing_zeros w32 s some few in
-      record { box = found.0; inside = eq-eqb _ 1 found.1; below = λ j lt. ap (λ (b : ℕ). nat_eq b 1) (found.2 j lt) }
+      (found.0, eq-eqb _ 1 found.1, λ j lt. ap (λ (b : ℕ). nat_eq b 1) (found.2 j lt))
 
 -- ---- what is left without the lowest box
 
@@ -84,4 +84,4 @@ cleared (suc i) s inside none =
     omega (arith, e, and_step s (s - 1), ap (bit_and (s / 2)) half, rest, low, pow-suc 2 i)
 
 pub lowest_cleared : (s i : ℕ) → Lowest s i → bit_and s (s - 1) ≡ without s i
-lowest_cleared s i low = cleared i s low.inside low.below
+lowest_cleared s i low = cleared i s low.1 low.2

@@ -1,4 +1,5 @@
 pub mod Boxes
+pub mod Chosen
 pub mod Families
 pub mod Making
 pub mod Refusals

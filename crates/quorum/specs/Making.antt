@@ -3,7 +3,7 @@ use Rattle.std.specs.Prelude.{ℕ, ◌+◌, ◌*◌, Bool, cond, ◌&&◌, Some,
 use Rattle.quorum.specs.declared.refusals.RuleFault.{RuleFault}
 use Rattle.quorum.specs.declared.refusals.RuleFault.TheVariants as fault
 
--- the roster has 1 to 32 boxes
+-- why a roster of n boxes is declined: n is not 1 to 32
 abbrev pub no_roster : ℕ → Option RuleFault
 no_roster n = cond (nat_le 1 n && nat_le n 32) None (Some fault.Roster)
 
@@ -11,9 +11,10 @@ no_roster n = cond (nat_le 1 n && nat_le n 32) None (Some fault.Roster)
 abbrev pub fit : ℕ → ℕ → ℕ → Bool
 fit n e t = nat_lt (2 * n) (2 * e + t) && (nat_le e t && nat_le t n)
 
+-- why sizes e and t of n boxes are declined: they do not fit
 abbrev pub no_size : ℕ → ℕ → ℕ → Option RuleFault
 no_size n e t = cond (fit n e t) None (Some fault.Size)
 
--- the roster of n has no box k
+-- why box k of a roster of n is declined: there is none
 abbrev pub no_box : ℕ → ℕ → Option RuleFault
 no_box n k = cond (nat_lt k n) None (Some fault.NoBox)

@@ -1,12 +1,14 @@
 -- The boxes of a set, bit by bit. Assumes nothing.
-use Rattle.std.specs.Prelude.{◌≡◌, ℕ, zero, suc, ◌+◌, ◌*◌, ◌/◌, ◌%◌, ◌^◌, ◌<◌, ◌≤◌, true, false, ◌||◌, ◌⊎◌, Decides, ◌==◌, bit_or, nat_eq, nat_lt, refl}
+use Rattle.std.specs.Prelude.{◌≡◌, ℕ, zero, suc, ◌+◌, ◌-◌, ◌*◌, ◌/◌, ◌%◌, ◌^◌, ◌<◌, ◌≤◌, true, false, not, ◌&&◌, ◌||◌, ◌⊎◌, Decides, ◌==◌, bit_and, bit_or, min, nat_eq, nat_lt, refl}
+use Rattle.std.specs.Int.{bit_at, bit_not, w32}
 use Rattle.std.proofs.Common.{inl, inr, sym, ap, ◌∙◌, lt_of_lt_of_le, mod-lt, le-add_right, one-mul, lt_of_le_of_lt, div-lt_iff_lt-mul, le-div_iff_mul-le, pow-suc, one-add, arith, lit<, pow_pos, pow_mono, shr-shr}
 use Rattle.std.proofs.Math.Nat.{div-eq_of_lt}
 use Rattle.std.proofs.Math.Arith.{lt-one}
 use Rattle.std.proofs.lemmas.Nat.{or_shr, or_mod, shr_le}
+use Rattle.std.proofs.lemmas.Nat.Bits.{bit_at-lt, bit_at_and, bit_at_not}
 use Rattle.std.proofs.Math.Pow.{ones_lt}
 use Rattle.std.proofs.lemmas.Bool.{both_ways, cases_lt, eq-eqb, le-ltb, lt-ltb, ltb-true, ne_eqb, eqb-false}
-use Rattle.std.proofs.lemmas.Bool.Decides.{Decides-at}
+use Rattle.std.proofs.lemmas.Bool.Decides.{Decides-at, nat_tests}
 use Rattle.quorum.specs.Sets.{everyone, has, within, AllBelow, NoneAbove}
 
 -- a set below 2 ^ n has no box at n or above
@@ -73,6 +75,20 @@ has_or s t i =
     ap (λ (q : ℕ). nat_eq (q % 2) 1) (or_shr s t i)
     ∙ ap (λ (q : ℕ). nat_eq q 1) (or_mod (s / 2 ^ i) (t / 2 ^ i) 1)
     ∙ or_digit (s / 2 ^ i % 2) (t / 2 ^ i % 2) (mod-lt (s / 2 ^ i) (lit< tt)) (mod-lt (t / 2 ^ i) (lit< tt))
+
+and_digit : (d e : ℕ) → d < 2 → e < 2 → (min d e == 1) ≡ (d == 1 && e == 1)
+and_digit d e g h = grind (arith, nat_tests)
+
+-- a box is in both of two sets
+pub has_and : (s t i : ℕ) → has (bit_and s t) i ≡ (has s i && has t i)
+has_and s t i = ap (λ (q : ℕ). nat_eq q 1) (bit_at_and s t i) ∙ and_digit (bit_at s i) (bit_at t i) (bit_at-lt s i) (bit_at-lt t i)
+
+not_digit : (d : ℕ) → d < 2 → (1 - d == 1) ≡ not (d == 1)
+not_digit d h = grind (arith, nat_tests)
+
+-- a box is not in a set
+pub has_not : (t i : ℕ) → t < 2 ^ 32 → i < 32 → has (bit_not w32 t) i ≡ not (has t i)
+has_not t i h lt = ap (λ (q : ℕ). nat_eq q 1) (bit_at_not w32 t i h lt) ∙ not_digit (bit_at t i) (bit_at-lt t i)
 
 -- all of n boxes
 pub has_everyone : (n i : ℕ) → i < n → has (everyone n) i ≡ true

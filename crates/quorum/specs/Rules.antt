@@ -2,7 +2,7 @@
 use Rattle.std.specs.Prelude.{◌≡◌, ℕ, ◌<◌, ◌≤◌, Bool, true}
 use Rattle.quorum.specs.Sets.{has, everyone, within, added, Part}
 
--- a roster of so many boxes, and the sets of them that are quorums
+-- the number of boxes of a roster, and the sets of them that are quorums
 pub record Family : Type 0 where
   pub boxes : ℕ
   pub quorum : ℕ → Bool

@@ -16,6 +16,7 @@ pub struct Anchored<R> {
 }
 
 impl<R: Rule + Drop> Anchored<R> {
+    // Declined unless the rule has the anchor as a box.
     pub fn new(rule: R, anchor: usize) -> Result<Anchored<R>, RuleFault>
         ensures { Answers (no_box (R.Rule.family rule).boxes anchor) (λ x. (x.rule ≡ rule) × (x.anchor ≡ anchor)) result }
     {

@@ -2,6 +2,7 @@
 #![tactic(auto)]
 
 pub mod anchored;
+pub mod chosen;
 pub mod majority;
 pub mod members;
 pub mod present;

@@ -16,6 +16,7 @@ pub struct Majority {
 }
 
 impl Majority {
+    // Declined unless the roster has 1 to 32 boxes.
     pub fn new(boxes: usize) -> Result<Majority, RuleFault>
         ensures { Answers (no_roster boxes) (λ x. x.roster.boxes ≡ boxes) result }
     {

@@ -1,7 +1,7 @@
 // The boxes of a set, from the lowest up.
 ghost use Rattle.std.specs.Prelude.{◌≡◌};
 ghost use Rattle.std.specs.Iterator.{at_most};
-ghost use Rattle.quorum.specs.Walking.{Leaves};
+ghost use Rattle.quorum.specs.Walking.{NextBox};
 
 use crate::sets::BoxSet;
 
@@ -21,7 +21,7 @@ pub fn each(set: BoxSet) -> Members
 impl Iterator for Members {
     type Item = usize;
 
-    ghost next_gives = { Leaves };
+    ghost next_gives = { NextBox };
 
     ghost remaining = { λ m. at_most m.left };
 

@@ -12,6 +12,7 @@ pub struct AllPresent<R> {
 }
 
 impl<R: Rule> AllPresent<R> {
+    // Over any rule.
     pub fn new(rule: R) -> AllPresent<R>
         ensures { result.rule ≡ rule }
     {

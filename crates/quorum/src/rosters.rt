@@ -14,6 +14,7 @@ pub struct Roster {
 }
 
 impl Roster {
+    // Declined unless it has 1 to 32 boxes.
     pub fn new(boxes: usize) -> Result<Roster, RuleFault>
         ensures { Answers (no_roster boxes) (λ x. x.boxes ≡ boxes) result }
     {

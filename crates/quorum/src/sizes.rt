@@ -1,4 +1,4 @@
-// Sizes: so many boxes are a quorum, and so many are clear.
+// Sizes: a set is a quorum, and clear, by how many boxes it has.
 ghost use Rattle.std.specs.Prelude.{◌≡◌, true};
 ghost use Rattle.quorum.specs.Families.{at_least, sizes, thirds};
 ghost use Rattle.quorum.specs.Making.{fit, no_roster, no_size};
@@ -48,7 +48,7 @@ impl Sizes {
         })
     }
 
-    // Whether the set has no stranger, and so many boxes or more.
+    // Whether the set has no stranger, and this many boxes or more.
     fn has_at_least(&self, least: usize, set: BoxSet) -> bool
         ensures { result ≡ at_least self.now.roster.boxes least set }
     {

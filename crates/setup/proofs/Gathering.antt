@@ -5,20 +5,20 @@ use Rattle.std.proofs.lemmas.Bool.{lt-ltb}
 use Rattle.std.proofs.lemmas.Bool.Decides.{nat_tests}
 use Rattle.quorum.specs.Sets.{added, everyone, has, within}
 use Rattle.quorum.specs.Members.{has_everyone, has_half, has_past}
-use Rattle.setup.specs.Rows.{among, boxes_with, entry, is}
+use Rattle.setup.specs.Rows.{among, among_at, boxes_with, entry, is}
 
-pub length_among : {V : Type 0} (row : List (Option V)) (s i : ℕ) → length (among row s i) ≡ length row
+pub length_among : {V : Type 0} (row : List (Option V)) (s i : ℕ) → length (among_at row s i) ≡ length row
 length_among [] s i = refl
 length_among (x ∷ row) s i = ap suc (length_among row s (i + 1))
 
 -- the row among a set that has all its boxes
-among_whole : {V : Type 0} (row : List (Option V)) (s i : ℕ) → ((j : ℕ) → i ≤ j → j < i + length row → has s j ≡ true) → among row s i ≡ row
+among_whole : {V : Type 0} (row : List (Option V)) (s i : ℕ) → ((j : ℕ) → i ≤ j → j < i + length row → has s j ≡ true) → among_at row s i ≡ row
 among_whole [] s i whole = refl
 among_whole {V} (x ∷ row) s i whole =
-    ap (λ (b : Bool). cond b x None ∷ among row s (i + 1)) (whole i (omega arith) (omega arith))
+    ap (λ (b : Bool). cond b x None ∷ among_at row s (i + 1)) (whole i (omega arith) (omega arith))
     ∙ ap {B = List (Option V)} (λ (l : List (Option V)). x ∷ l) (among_whole row s (i + 1) (λ j le lt. whole j (omega arith) (omega arith)))
 
-pub among_all : {V : Type 0} (row : List (Option V)) (n : ℕ) → length row ≤ n → among row (everyone n) 0 ≡ row
+pub among_all : {V : Type 0} (row : List (Option V)) (n : ℕ) → length row ≤ n → among row (everyone n) ≡ row
 among_all row n few = among_whole row (everyone n) 0 (λ j le lt. has_everyone n j (omega arith))
 
 -- a box above all others of a set joins it

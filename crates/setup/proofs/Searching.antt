@@ -4,11 +4,11 @@ use Rattle.std.proofs.lemmas.Bool.{both_ways, cases_Bool, cond-false, cond-true}
 use Rattle.quorum.specs.Sets.{everyone, has}
 use Rattle.quorum.proofs.Somes.{some_is, some_none}
 use Rattle.setup.specs.Orders.{Ordered}
-use Rattle.setup.specs.Rows.{among, entry, first, sooner, IsFirst}
+use Rattle.setup.specs.Rows.{among, among_at, entry, first, sooner, IsFirst}
 use Rattle.setup.proofs.Gathering.{among_all}
 
 -- box i of the row with none at the boxes that are not in the set
-pub entry_among : {V : Type 0} (row : List (Option V)) (s k i : ℕ) → entry (among row s k) i ≡ cond (has s (k + i)) (entry row i) None
+pub entry_among : {V : Type 0} (row : List (Option V)) (s k i : ℕ) → entry (among_at row s k) i ≡ cond (has s (k + i)) (entry row i) None
 entry_among {V} [] s k i = none (has s (k + i))
   where
     none : (b : Bool) → ◌≡◌ {A = Option V} None (cond b None None)
@@ -20,13 +20,13 @@ entry_among (x ∷ row) s k (suc i) =
     entry_among row s (k + 1) i ∙ ap (λ (j : ℕ). cond (has s j) (entry row i) None) next
 
 -- so what stands at a box of the set stands there, and nothing at another box; and the other way round
-pub among_in : {V : Type 0} (row : List (Option V)) (s i : ℕ) → has s i ≡ true → entry (among row s 0) i ≡ entry row i
+pub among_in : {V : Type 0} (row : List (Option V)) (s i : ℕ) → has s i ≡ true → entry (among row s) i ≡ entry row i
 among_in row s i h = entry_among row s 0 i ∙ cond-true (has s (0 + i)) (entry row i) None (ap (has s) (zero-add i) ∙ h)
 
-pub among_out : {V : Type 0} (row : List (Option V)) (s i : ℕ) → has s i ≡ false → entry (among row s 0) i ≡ None
+pub among_out : {V : Type 0} (row : List (Option V)) (s i : ℕ) → has s i ≡ false → entry (among row s) i ≡ None
 among_out row s i h = entry_among row s 0 i ∙ cond-false (has s (0 + i)) (entry row i) None (ap (has s) (zero-add i) ∙ h)
 
-pub among_from : {V : Type 0} (row : List (Option V)) (s i : ℕ) (v : V) → entry (among row s 0) i ≡ Some v → (has s i ≡ true) × (entry row i ≡ Some v)
+pub among_from : {V : Type 0} (row : List (Option V)) (s i : ℕ) (v : V) → entry (among row s) i ≡ Some v → (has s i ≡ true) × (entry row i ≡ Some v)
 among_from row s i v e = go (cases_Bool (has s i))
   where
     go : ((has s i ≡ true) ⊎ (has s i ≡ false)) → (has s i ≡ true) × (entry row i ≡ Some v)
@@ -93,7 +93,7 @@ module _ {V : Type 0} {before : V → V → Bool} (o : Ordered before) where
   least_one row (Some v) None h g = absurd (some_none (sym h.0.1 ∙ g h.0.0))
   least_one row (Some v) (Some w) h g = ap {B = Option V} Some (o.total v w (g.1 h.0.0 v h.0.1) (h.1 g.0.0 w g.0.1))
 
-  among_first : (row : List (Option V)) (s : ℕ) (r : Option V) → Least (among row s 0) r → IsFirst before row s r
+  among_first : (row : List (Option V)) (s : ℕ) (r : Option V) → Least (among row s) r → IsFirst before row s r
   among_first row s None h = λ i inside. sym (among_in row s i inside) ∙ h i
   among_first row s (Some v) h = (
     (h.0.0, (among_from row s h.0.0 v h.0.1).0, (among_from row s h.0.0 v h.0.1).1),
@@ -104,8 +104,8 @@ module _ {V : Type 0} {before : V → V → Bool} (o : Ordered before) where
       sooner_than w other h (inl e) = e
       sooner_than w other h (inr e) = absurd (other (o.total w v h e))
 
-  pub first_is_first : (row : List (Option V)) (s : ℕ) → IsFirst before row s (first before (among row s 0))
-  first_is_first row s = among_first row s (first before (among row s 0)) (least (among row s 0))
+  pub first_is_first : (row : List (Option V)) (s : ℕ) → IsFirst before row s (first before (among row s))
+  first_is_first row s = among_first row s (first before (among row s)) (least (among row s))
 
   -- what comes before a setup is another one
   apart : (a b : V) → before a b ≡ true → a ≡ b → ⊥
@@ -129,7 +129,7 @@ module _ {V : Type 0} {before : V → V → Bool} (o : Ordered before) where
       ap {B = Option V} Some (o.total v w (not_before row other s v w same h g) (not_before other row s w v (λ i e. sym (same i e)) g h))
 
   -- the first among the boxes of a set depends on no other box
-  pub first_alike : (row other : List (Option V)) (s : ℕ) → ((i : ℕ) → has s i ≡ true → entry row i ≡ entry other i) → first before (among row s 0) ≡ first before (among other s 0)
+  pub first_alike : (row other : List (Option V)) (s : ℕ) → ((i : ℕ) → has s i ≡ true → entry row i ≡ entry other i) → first before (among row s) ≡ first before (among other s)
   first_alike row other s same = one_first row other s _ _ same (first_is_first row s) (first_is_first other s)
 
   -- so rows with the same at every box have one first

@@ -6,10 +6,13 @@ use Rattle.quorum.specs.Sets.{has}
 abbrev pub entry : {V : Type 0} → List (Option V) → ℕ → Option V
 entry row i = slice_index_or row i None
 
--- the row, which begins at box i, with none at the boxes that are not in the set
-abbrev pub among : {V : Type 0} → List (Option V) → ℕ → ℕ → List (Option V)
-among [] s i = []
-among (x ∷ row) s i = cond (has s i) x None ∷ among row s (i + 1)
+-- the row with none at the boxes that are not in the set; its first entry is that of box i
+abbrev pub among_at : {V : Type 0} → List (Option V) → ℕ → ℕ → List (Option V)
+among_at [] s i = []
+among_at (x ∷ row) s i = cond (has s i) x None ∷ among_at row s (i + 1)
+
+abbrev pub among : {V : Type 0} → List (Option V) → ℕ → List (Option V)
+among row s = among_at row s 0
 
 -- the one of two that comes first
 abbrev pub sooner : {V : Type 0} → (V → V → Bool) → Option V → Option V → Option V

@@ -24,7 +24,7 @@ pub fn is<V: Setup>(v: V, entry: Option<V>) -> bool
 // The boxes of the set that have the setup `v`, as `field` reads it from their entries in the row.
 #[tactic(auto, using(crate::proofs::Walked::gathers_none))]
 pub fn boxes_with<T, V: Setup, F: Field<T, V>>(field: &F, row: &[T], set: BoxSet, v: V) -> BoxSet
-    ensures { result ≡ boxes_that_have V.Setup.before v (among (map (F.Field.reads field.now) row.now) set 0) }
+    ensures { result ≡ boxes_that_have V.Setup.before v (among (map (F.Field.reads field.now) row.now) set) }
 {
     let mut found = 0;
     for i in each(set) {
@@ -37,7 +37,7 @@ pub fn boxes_with<T, V: Setup, F: Field<T, V>>(field: &F, row: &[T], set: BoxSet
 
 // Whether all boxes of the set have the setup `v`. It stops at the first that has not.
 pub fn all_have<T, V: Setup, F: Field<T, V>>(field: &F, row: &[T], set: BoxSet, v: V) -> bool
-    ensures { result ≡ (boxes_that_have V.Setup.before v (among (map (F.Field.reads field.now) row.now) set 0) == set) }
+    ensures { result ≡ (boxes_that_have V.Setup.before v (among (map (F.Field.reads field.now) row.now) set) == set) }
 {
     for i in each(set) {
         if !is(v, read_at(field, row, i)) {

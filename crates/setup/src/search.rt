@@ -45,7 +45,7 @@ pub fn read_at<T, V: Setup, F: Field<T, V>>(field: &F, row: &[T], i: usize) -> O
     field.read(row.get(i)?)
 }
 
-// The one of two that comes first; none comes last.
+// The one of two that comes first; none comes last. `moves`: of three the first two may be compared before the third is looked at.
 pub fn sooner<V: Setup>(a: Option<V>, b: Option<V>) -> Option<V>
     ensures value { result ≡ sooner_of V.Setup.before a b }
     ensures moves { (rest : Option V) → sooner_of V.Setup.before result rest ≡ sooner_of V.Setup.before a (sooner_of V.Setup.before b rest) }
@@ -60,7 +60,7 @@ pub fn sooner<V: Setup>(a: Option<V>, b: Option<V>) -> Option<V>
 // The first setup among the boxes of the set, as `field` reads it from their entries in the row.
 #[tactic(auto, using(crate::proofs::Walked::turn_takes, crate::proofs::Walked::search_ends))]
 pub fn first<T, V: Setup, F: Field<T, V>>(field: &F, row: &[T], set: BoxSet) -> Option<V>
-    ensures value { result ≡ first_of V.Setup.before (among (map (F.Field.reads field.now) row.now) set 0) }
+    ensures value { result ≡ first_of V.Setup.before (among (map (F.Field.reads field.now) row.now) set) }
     ensures law { IsFirst V.Setup.before (map (F.Field.reads field.now) row.now) set result }
 {
     let mut best = None;

@@ -1,4 +1,4 @@
-// Worked examples of the definitions, a caller of a run, a small procedure, and tests of the calls.
+// Worked examples of the definitions, callers that have the promise and the published algorithms from the contracts, a small procedure, and tests of the calls.
 #![tactic(auto)]
 
 ghost use Rattle.std.specs.Prelude.{◌≡◌, length};

@@ -28,16 +28,14 @@ impl<R: Rule> Unison<R> {
 }
 
 impl<V: Setup, R: Rule> Procedure<V> for Unison<R> {
+    type Over = R;
+
     ghost meaning = { λ x. unison V.Setup.before (R.Rule.family x.rule) };
 
     ghost lawful = { λ x. unison_lawful V.Setup.ordered (R.Rule.family x.rule) (R.Rule.lawful x.rule) };
 
-    fn boxes(&self) -> usize {
-        self.rule.boxes()
-    }
-
-    fn is_quorum(&self, set: BoxSet) -> bool {
-        self.rule.is_quorum(set)
+    fn rule(&self) -> &R {
+        &self.rule
     }
 
     fn beats(&self) -> u8 {

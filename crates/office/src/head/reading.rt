@@ -1,5 +1,5 @@
 // The lines that a shift's text begins with: the roster, the rule, the procedure and a setup for each box.
-ghost use Rattle.std.specs.Prelude.{◌≡◌, ◌+◌, ◌<◌, IfOk, codes, length, OnOk};
+ghost use Rattle.std.specs.Prelude.{◌≡◌, ◌<◌, IfOk, length, OnOk};
 ghost use Rattle.office.specs.Heads.{beat, field as field_of, head, judged, roster as roster_of, setups as setups_of};
 ghost use Rattle.office.specs.Reading.{HasRead, begun};
 ghost use Rattle.shift.specs.Lines.{left, unless_long};
@@ -8,7 +8,7 @@ ghost use Rattle.shift.specs.Told.{told};
 
 use crate::head::Head;
 use crate::named_procedure::NamedProcedure;
-use crate::named_rule::NamedRule;
+use crate::named_rule::named_rule;
 use agreement::faults::RunFault;
 use quorum::rosters::Roster;
 use shift::faults::TextFault;
@@ -26,9 +26,8 @@ pub(crate) fn read_head(reader: &mut Reader<'_>) -> Result<Head, TextFault>
     let rule = field::<RuleName>(reader, b"rule")?;
     let procedure = field::<ProcedureName>(reader, b"procedure")?;
     let setups = read_setups(reader, roster)?;
-    let rule = NamedRule::new(rule, roster);
     Ok(Head {
-        procedure: NamedProcedure::new(procedure, rule),
+        procedure: NamedProcedure::new(procedure, named_rule(rule, roster)),
         setups,
     })
 }
@@ -44,7 +43,7 @@ fn read_roster(reader: &mut Reader<'_>) -> Result<Roster, TextFault>
     Ok(judge(boxes).map_err(|fault| (fault, line.spot))?)
 }
 
-// The roster of so many boxes, or the rule's fault inside the run's.
+// The roster of this number of boxes, or the rule's fault inside the run's.
 fn judge(boxes: usize) -> Result<Roster, RunFault>
     ensures { told (λ x. x.boxes) result ≡ judged boxes }
 {
@@ -61,7 +60,7 @@ fn read_setups(reader: &mut Reader<'_>, roster: Roster) -> Result<Numbers, TextF
     let mut setups = Numbers::empty();
     for _i in 0..roster.boxes() {
         let setup = field(reader, b"setup")?;
-        setups = setups.with(setup).unwrap();
+        setups.push(setup).unwrap();
     }
     Ok(setups)
 }

@@ -2,25 +2,24 @@
 ghost use Rattle.std.specs.Prelude.{◌≡◌, ◌≤◌, length};
 ghost use Rattle.std.specs.Option.{option_map};
 ghost use Rattle.office.specs.Answers.{outcome, refused, start};
-ghost use Rattle.office.specs.Events.{shown_as};
-ghost use Rattle.agreement.specs.Slips.{casts, held};
+ghost use Rattle.office.specs.Events.{seen};
 ghost use Rattle.office.specs.Named.{meant};
 ghost use Rattle.office.specs.Working.{at_work, declined_with, moment};
 ghost use Rattle.shift.specs.Lists.{listed};
 
-use crate::events::{Event, Phase};
 use crate::head::Head;
 use crate::named_procedure::NamedProcedure;
-use crate::rows::{Cast, Held, Row};
+use crate::signs::Sign;
 use crate::work::{ROOM, Work};
 use agreement::faults::RunFault;
 use agreement::procedures::Procedure;
 use agreement::runs::Run;
 use agreement::slips::Slip;
 use quorum::refusals::Fault;
+use quorum::rules::Rule;
 use quorum::sets::BoxSet;
 
-// A beat on the first slips of the table and the sheet, so many.
+// A beat on the first `boxes` slips of the table and the sheet.
 fn offer(
     run: &mut Run<u32, NamedProcedure>,
     boxes: usize,
@@ -43,7 +42,7 @@ impl Work {
         ensures runs { meant result.run.procedure ≡ meant head.procedure }
         ensures opens { moment result ≡ start (listed head.setups) }
     {
-        let boxes = Procedure::<u32>::boxes(&head.procedure);
+        let boxes = Procedure::<u32>::rule(&head.procedure).boxes();
         let mut table = [Slip::opening(0); ROOM];
         let run = Run::open(head.procedure, head.setups.as_slice(), &mut table[..boxes]).unwrap();
         Work {
@@ -54,9 +53,9 @@ impl Work {
         }
     }
 
-    // Takes the beat that is due, or declines it, and says what is shown of it.
-    pub(crate) fn beat(&mut self, heard: &[BoxSet]) -> Option<Event>
-        ensures shows { option_map shown_as result ≡ (outcome (meant self.old.run.procedure) (moment self.old) heard.now).0 }
+    // Takes the beat that is due, or declines it, and says what is to be shown of it.
+    pub(crate) fn beat(&mut self, heard: &[BoxSet]) -> Option<Sign>
+        ensures shows { option_map (λ sign. seen sign (moment self.new).table) result ≡ (outcome (meant self.old.run.procedure) (moment self.old) heard.now).0 }
         ensures moves { moment self.new ≡ (outcome (meant self.old.run.procedure) (moment self.old) heard.now).1 }
         ensures runs { self.new.run.procedure ≡ self.old.run.procedure }
     {
@@ -68,26 +67,19 @@ impl Work {
             &mut self.sheet,
             heard,
         ) {
-            return Some(Event::Declined(Fault::from(fault).refusal));
+            return Some(Sign::Declined(Fault::from(fault).refusal));
         }
         if self.run.due().beat == 0 {
-            Some(Event::Phase(self.phase(due.phase)))
+            Some(Sign::Ended(due.phase))
         } else {
             None
         }
     }
 
-    // The phase of this number, as the table has it.
-    fn phase(&self, number: u32) -> Phase
-        ensures number { result.number ≡ number }
-        ensures votes { result.votes.setups.items ≡ casts (moment self.now).table }
-        ensures held { result.held.setups.items ≡ held (moment self.now).table }
+    // The slips of the roster.
+    pub(crate) fn table(&self) -> &[Slip<u32>]
+        ensures { result.now ≡ (moment self.now).table }
     {
-        let table = &self.table[..self.boxes];
-        Phase {
-            number,
-            votes: Row::of(&Cast, table),
-            held: Row::of(&Held, table),
-        }
+        &self.table[..self.boxes]
     }
 }

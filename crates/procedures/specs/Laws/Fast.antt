@@ -53,7 +53,7 @@ module _ {V : Type 0} {before : V → V → Bool} (o : Ordered before) (f : Fami
     (is_clear : clear s ≡ true) where
   -- the possible quorum for v
   abbrev possible_for : V → ℕ
-  possible_for = possible f before s (among row s 0)
+  possible_for = possible f before s (among row s)
 
   -- a clear set is within the roster
   inside_clear : s < 2 ^ f.boxes
@@ -61,19 +61,19 @@ module _ {V : Type 0} {before : V → V → Bool} (o : Ordered before) (f : Fami
 
   -- those of its boxes that were heard sent v
   possible_heard : (v : V) (i : ℕ) → has s i ≡ true → has (possible_for v) i ≡ true → entry row i ≡ Some v
-  possible_heard v i there h = go (or_cases _ _ (sym (has_or (boxes_with before v (among row s 0)) (unheard f.boxes s) i) ∙ h))
+  possible_heard v i there h = go (or_cases _ _ (sym (has_or (boxes_with before v (among row s)) (unheard f.boxes s) i) ∙ h))
     where
-      go : (has (boxes_with before v (among row s 0)) i ≡ true) ⊎ (has (unheard f.boxes s) i ≡ true) → entry row i ≡ Some v
+      go : (has (boxes_with before v (among row s)) i ≡ true) ⊎ (has (unheard f.boxes s) i ≡ true) → entry row i ≡ Some v
       go (inl e) = (sender_sent o v row s i e).1
       go (inr e) = absurd (both_ways (has (unheard f.boxes s) i) (has_unheard f.boxes s i inside_clear (has_below f.boxes s i inside_clear there) ∙ ap not there) e)
 
   -- every box of the roster that has v in the row is of it, heard or not
   sent_possible : (v : V) (i : ℕ) → i < f.boxes → entry row i ≡ Some v → has (possible_for v) i ≡ true
-  sent_possible v i lt e = has_or (boxes_with before v (among row s 0)) (unheard f.boxes s) i ∙ go (cases_Bool (has s i))
+  sent_possible v i lt e = has_or (boxes_with before v (among row s)) (unheard f.boxes s) i ∙ go (cases_Bool (has s i))
     where
-      go : (has s i ≡ true) ⊎ (has s i ≡ false) → (has (boxes_with before v (among row s 0)) i || has (unheard f.boxes s) i) ≡ true
+      go : (has s i ≡ true) ⊎ (has s i ≡ false) → (has (boxes_with before v (among row s)) i || has (unheard f.boxes s) i) ≡ true
       go (inl h) = or_left _ (has (unheard f.boxes s) i) (sent_sender o v row s i h e)
-      go (inr h) = or_right (has (boxes_with before v (among row s 0)) i) _ (has_unheard f.boxes s i inside_clear lt ∙ ap not h)
+      go (inr h) = or_right (has (boxes_with before v (among row s)) i) _ (has_unheard f.boxes s i inside_clear lt ∙ ap not h)
 
   -- of a clear set there is at most one setup whose possible quorum is a quorum
   pub one_favourite : (v w : V) → f.quorum (possible_for v) ≡ true → f.quorum (possible_for w) ≡ true → v ≡ w
@@ -98,21 +98,21 @@ module _ {V : Type 0} {before : V → V → Bool} (o : Ordered before) (f : Fami
 
   -- where all of a quorum sent v, and a clear set was heard, v is the favourite
   favoured : (row : List (Option V)) (s q : ℕ) (v : V) → length row ≡ n → clear s ≡ true → f.quorum q ≡ true → Unanimous q v row
-      → backed f before (unheard n s) (among row s 0) ≡ Some v
+      → backed f before (unheard n s) (among row s) ≡ Some v
   favoured row s q v long is_clear quorum all =
-      backed_only o f (unheard n s) v (among row s 0) (stands o v row s at.0 at.3 (all at.0 at.1)) elected (λ w stood h. one_favourite o f clear view row s is_clear w v h elected)
+      backed_only o f (unheard n s) v (among row s) (stands o v row s at.0 at.3 (all at.0 at.1)) elected (λ w stood h. one_favourite o f clear view row s is_clear w v h elected)
     where
       at : (i : ℕ) × (has q i ≡ true) × (has q i ≡ true) × (has s i ≡ true)
       at = view.shares q q s quorum quorum is_clear
 
-      part : Part q (possible f before s (among row s 0) v)
+      part : Part q (possible f before s (among row s) v)
       part i h = sent_possible o f clear view row s is_clear v i (has_below n q i (ltb-true q (2 ^ n) (law.inside q quorum)) h) (all i h)
 
-      senders : boxes_with before v (among row s 0) < 2 ^ n
-      senders = ltb-true _ (2 ^ n) (with_within before v (among row s 0) n (length_among row s 0 ∙ long))
+      senders : boxes_with before v (among row s) < 2 ^ n
+      senders = ltb-true _ (2 ^ n) (with_within before v (among row s) n (length_among row s 0 ∙ long))
 
-      elected : f.quorum (possible f before s (among row s 0) v) ≡ true
-      elected = quorum_grows f law q _ quorum part (lt-ltb _ (2 ^ n) (or_lt n (boxes_with before v (among row s 0)) (unheard n s) senders (unheard_small n s)))
+      elected : f.quorum (possible f before s (among row s) v) ≡ true
+      elected = quorum_grows f law q _ quorum part (lt-ltb _ (2 ^ n) (or_lt n (boxes_with before v (among row s)) (unheard n s) senders (unheard_small n s)))
 
   -- a slip stands for v
   abbrev Own : V → Slip V → Type 0

@@ -45,8 +45,8 @@ module _ {V : Type 0} {before : V → V → Bool} (o : Ordered before) (f : Fami
   abbrev Only : V → List (Option V) → Type 0
   Only v row = (i : ℕ) → So (λ w. w ≡ v) (entry row i)
 
-  only_first : (v : V) (row : List (Option V)) → Only v row → (s : ℕ) → So (λ w. w ≡ v) (first before (among row s 0))
-  only_first v row only s w e = let stood = first_stands o (among row s 0) w e in only stood.0 w (sent row s stood.0 w stood.1).1
+  only_first : (v : V) (row : List (Option V)) → Only v row → (s : ℕ) → So (λ w. w ≡ v) (first before (among row s))
+  only_first v row only s w e = let stood = first_stands o (among row s) w e in only stood.0 w (sent row s stood.0 w stood.1).1
 
   -- ---- one beat
 

@@ -27,14 +27,14 @@ use Rattle.procedures.specs.Received.{IsBacked, IsMostOften, IsUnanimous, backed
 -- ---- what stands in a row
 
 -- what a box sent that was heard, and none for another box
-pub heard_entry : {W : Type 0} (row : List (Option W)) (s i : ℕ) → has s i ≡ true → entry (among row s 0) i ≡ entry row i
+pub heard_entry : {W : Type 0} (row : List (Option W)) (s i : ℕ) → has s i ≡ true → entry (among row s) i ≡ entry row i
 heard_entry = among_in
 
-pub unheard_entry : {W : Type 0} (row : List (Option W)) (s i : ℕ) → has s i ≡ false → entry (among row s 0) i ≡ None
+pub unheard_entry : {W : Type 0} (row : List (Option W)) (s i : ℕ) → has s i ≡ false → entry (among row s) i ≡ None
 unheard_entry = among_out
 
 -- what stands in a row of what was received was sent by a box that was heard
-pub sent : {W : Type 0} (row : List (Option W)) (s i : ℕ) (w : W) → entry (among row s 0) i ≡ Some w → (has s i ≡ true) × (entry row i ≡ Some w)
+pub sent : {W : Type 0} (row : List (Option W)) (s i : ℕ) (w : W) → entry (among row s) i ≡ Some w → (has s i ≡ true) × (entry row i ≡ Some w)
 sent = among_from
 
 -- where it is not none there is one, and where it is no value it is none
@@ -57,14 +57,14 @@ counted_entry {V} before row i = each row i
 
 module _ {V : Type 0} {before : V → V → Bool} (o : Ordered before) where
   -- a sender of v was heard, and sent v; and the other way round
-  pub sender_sent : (v : V) (row : List (Option V)) (s i : ℕ) → has (boxes_with before v (among row s 0)) i ≡ true → (has s i ≡ true) × (entry row i ≡ Some v)
-  sender_sent v row s i h = sent row s i v (voters_unanimous o v (among row s 0) i h)
+  pub sender_sent : (v : V) (row : List (Option V)) (s i : ℕ) → has (boxes_with before v (among row s)) i ≡ true → (has s i ≡ true) × (entry row i ≡ Some v)
+  sender_sent v row s i h = sent row s i v (voters_unanimous o v (among row s) i h)
 
-  pub sent_sender : (v : V) (row : List (Option V)) (s i : ℕ) → has s i ≡ true → entry row i ≡ Some v → has (boxes_with before v (among row s 0)) i ≡ true
-  sent_sender v row s i h e = votes_among o v (among row s 0) i (heard_entry row s i h ∙ e)
+  pub sent_sender : (v : V) (row : List (Option V)) (s i : ℕ) → has s i ≡ true → entry row i ≡ Some v → has (boxes_with before v (among row s)) i ≡ true
+  sent_sender v row s i h e = votes_among o v (among row s) i (heard_entry row s i h ∙ e)
 
   -- where it was sent by a box that was heard, it stands in what was received
-  pub stands : {W : Type 0} (w : W) (row : List (Option W)) (s i : ℕ) → has s i ≡ true → entry row i ≡ Some w → Stands w (among row s 0)
+  pub stands : {W : Type 0} (w : W) (row : List (Option W)) (s i : ℕ) → has s i ≡ true → entry row i ≡ Some w → Stands w (among row s)
   stands w row s i h e = (i, heard_entry row s i h ∙ e)
 
   -- ---- what the searches find
@@ -104,11 +104,11 @@ module _ {V : Type 0} {before : V → V → Bool} (o : Ordered before) where
   pub backed_stands : (f : Family) (others : ℕ) (row : List (Option V)) (v : V) → backed f before others row ≡ Some v → Stands v row
   backed_stands f others row v e = (subst (IsBacked f before others row) e (backed_is_backed f others row)).0
 
-  pub unanimous_is_unanimous : (heard : ℕ) (row : List (Option V)) → IsUnanimous before heard (among row heard 0) (unanimous before heard (among row heard 0))
+  pub unanimous_is_unanimous : (heard : ℕ) (row : List (Option V)) → IsUnanimous before heard (among row heard) (unanimous before heard (among row heard))
   unanimous_is_unanimous heard row = go (first before r) refl (first_is_first o row heard)
     where
       r : List (Option V)
-      r = among row heard 0
+      r = among row heard
 
       go : (x : Option V) → first before r ≡ x → IsFirst before row heard x → IsUnanimous before heard r (option_and_then (λ v. cond (boxes_with before v r == heard) (Some v) None) x)
       go None e law = λ w stood all. let at = sent row heard stood.0 w stood.1 in absurd (some_none (sym at.1 ∙ law stood.0 at.0))
@@ -122,12 +122,12 @@ module _ {V : Type 0} {before : V → V → Bool} (o : Ordered before) where
               both_ways (boxes_with before v r == heard) h (eq-eqb _ heard (subst (λ (x : V). boxes_with before x r ≡ heard) same all))
 
   -- what is unanimous stands there, and was sent by all that were heard
-  pub unanimous_stands : (s : ℕ) (row : List (Option V)) (v : V) → unanimous before s (among row s 0) ≡ Some v → Stands v (among row s 0)
-  unanimous_stands s row v e = (subst (IsUnanimous before s (among row s 0)) e (unanimous_is_unanimous s row)).0
+  pub unanimous_stands : (s : ℕ) (row : List (Option V)) (v : V) → unanimous before s (among row s) ≡ Some v → Stands v (among row s)
+  unanimous_stands s row v e = (subst (IsUnanimous before s (among row s)) e (unanimous_is_unanimous s row)).0
 
-  pub unanimous_sent : (s : ℕ) (row : List (Option V)) (v : V) → unanimous before s (among row s 0) ≡ Some v → Unanimous s v row
+  pub unanimous_sent : (s : ℕ) (row : List (Option V)) (v : V) → unanimous before s (among row s) ≡ Some v → Unanimous s v row
   unanimous_sent s row v e i h =
-      let law = subst (IsUnanimous before s (among row s 0)) e (unanimous_is_unanimous s row) in (sender_sent v row s i (ap (λ (t : ℕ). has t i) law.1 ∙ h)).1
+      let law = subst (IsUnanimous before s (among row s)) e (unanimous_is_unanimous s row) in (sender_sent v row s i (ap (λ (t : ℕ). has t i) law.1 ∙ h)).1
 
   -- dated votes are in order
   pub dates : Ordered (dated_before before)

@@ -50,40 +50,40 @@ module _ {V : Type 0} {before : V → V → Bool} (o : Ordered before) where
       formed w h = (boxes_with before w row, h, voters_unanimous o w row)
 
   -- so what is backed a quorum sent
-  pub backed_formed : (f : Family) (row : List (Option V)) (s : ℕ) (w : V) → backed f before 0 (among row s 0) ≡ Some w → Formed f w row
-  backed_formed f row s w e = (boxes_with before w (among row s 0), backed_senders f w (among row s 0) e, λ i member. (sender_sent o w row s i member).1)
+  pub backed_formed : (f : Family) (row : List (Option V)) (s : ℕ) (w : V) → backed f before 0 (among row s) ≡ Some w → Formed f w row
+  backed_formed f row s w e = (boxes_with before w (among row s), backed_senders f w (among row s) e, λ i member. (sender_sent o w row s i member).1)
 
   -- ---- where all of a quorum that was heard sent v
 
   module _ (f : Family) (law : RuleLawful f) (v : V) (row : List (Option V)) (s : ℕ) (quorum : f.quorum s ≡ true) (all : Unanimous s v row) where
     -- it was received, and no other was
-    all_stands : Stands v (among row s 0)
+    all_stands : Stands v (among row s)
     all_stands = let at = quorum_box f law s quorum in stands o v row s at.0 at.1 (all at.0 at.1)
 
-    pub all_only : (w : V) → Stands w (among row s 0) → w ≡ v
+    pub all_only : (w : V) → Stands w (among row s) → w ≡ v
     all_only w stood = let by = sent row s stood.0 w stood.1 in some_is (sym by.1 ∙ all stood.0 by.0)
 
     -- so it is the smallest received
-    pub first_all : first before (among row s 0) ≡ Some v
+    pub first_all : first before (among row s) ≡ Some v
     first_all =
-        let is = first_there o (among row s 0) v all_stands in is.1 ∙ ap {B = Option V} Some (all_only is.0 (first_stands o (among row s 0) is.0 is.1))
+        let is = first_there o (among row s) v all_stands in is.1 ∙ ap {B = Option V} Some (all_only is.0 (first_stands o (among row s) is.0 is.1))
 
     -- its senders are all that were heard
-    senders_all : boxes_with before v (among row s 0) ≡ s
+    senders_all : boxes_with before v (among row s) ≡ s
     senders_all =
-        same_parts (length (among row s 0) + f.boxes) _ s
-        (lt_of_lt_of_le (with_below before v (among row s 0)) (pow_mono (omega arith)))
+        same_parts (length (among row s) + f.boxes) _ s
+        (lt_of_lt_of_le (with_below before v (among row s)) (pow_mono (omega arith)))
         (lt_of_lt_of_le (ltb-true s (2 ^ f.boxes) (law.inside s quorum)) (pow_mono (omega arith)))
         (λ i h. (sender_sent o v row s i h).0)
         (λ i h. sent_sender o v row s i h (all i h))
 
     -- and it is unanimous, and backed
-    pub unanimous_all : unanimous before s (among row s 0) ≡ Some v
-    unanimous_all = go (unanimous before s (among row s 0)) (unanimous_is_unanimous o s row)
+    pub unanimous_all : unanimous before s (among row s) ≡ Some v
+    unanimous_all = go (unanimous before s (among row s)) (unanimous_is_unanimous o s row)
       where
-        go : (x : Option V) → IsUnanimous before s (among row s 0) x → x ≡ Some v
+        go : (x : Option V) → IsUnanimous before s (among row s) x → x ≡ Some v
         go None none = absurd (none v all_stands senders_all)
         go (Some w) is = ap {B = Option V} Some (all_only w is.0)
 
-    pub backed_all : backed f before 0 (among row s 0) ≡ Some v
-    backed_all = senders_backed f law v (among row s 0) (ap f.quorum senders_all ∙ quorum)
+    pub backed_all : backed f before 0 (among row s) ≡ Some v
+    backed_all = senders_backed f law v (among row s) (ap f.quorum senders_all ∙ quorum)

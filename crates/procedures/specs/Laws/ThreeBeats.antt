@@ -50,8 +50,8 @@ module _ {V : Type 0} {before : V → V → Bool} (o : Ordered before) where
       go (inr le) = le
 
   -- so no dated vote received is later than all those for the setup of the latest
-  pub latest_is_late : (votes : List (Option (ℕ × V))) (s : ℕ) (v : V) → NoneLater s (unwrap_or (latest_vote before (among votes s 0)) v) votes
-  latest_is_late votes s v j r w member e = go (first (dated_before before) (among votes s 0)) (first_is_first (dates o) votes s)
+  pub latest_is_late : (votes : List (Option (ℕ × V))) (s : ℕ) (v : V) → NoneLater s (unwrap_or (latest_vote before (among votes s)) v) votes
+  latest_is_late votes s v j r w member e = go (first (dated_before before) (among votes s)) (first_is_first (dates o) votes s)
     where
       go : (x : Option (ℕ × V)) → IsFirst (dated_before before) votes s x → (i : ℕ) × Late r (unwrap_or (option_map (λ d. d.1) x) v) votes i
       go None none = absurd (some_none (sym e ∙ none j member))

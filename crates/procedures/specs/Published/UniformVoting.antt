@@ -22,7 +22,7 @@ pub record Agreeing {V : Type 0} (before : V → V → Bool) (received : List (O
   pub decision : q.decision ≡ p.decision
 
 -- The second, in which each sends its candidate and its agreed vote to all.
-pub record Observing {V : Type 0} (before : V → V → Bool) (received : List (V × Option V)) (p q : Process V) : Type 0 where
+pub record Deciding {V : Type 0} (before : V → V → Bool) (received : List (V × Option V)) (p q : Process V) : Type 0 where
   -- if at least one agreed vote was received, such a one is the candidate, whichever it is; and else the smallest candidate received
   pub observes : (v : V) → Stands v (map (λ m. m.1) received) → Stands q.cand (map (λ m. m.1) received)
   pub otherwise : ((v : V) → Stands v (map (λ m. m.1) received) → ⊥) → Smallest before (map (λ m. Some m.0) received) q.cand
@@ -49,7 +49,7 @@ pairs table heard = messages (λ slip. ((process slip).cand, (process slip).agre
 -- the round of a beat; there is no third one
 abbrev pub Round : {V : Type 0} → (V → V → Bool) → ℕ → Slip V → ℕ → List (Slip V) → Slip V → Type 0
 Round before zero slip heard table new = Agreeing before (candidates table heard) (process slip) (process new)
-Round before (suc zero) slip heard table new = Observing before (pairs table heard) (process slip) (process new)
+Round before (suc zero) slip heard table new = Deciding before (pairs table heard) (process slip) (process new)
 Round before (suc (suc b)) slip heard table new = Unit {0}
 
 -- A box begins as a process does. The slip and the new slip are a round of UniformVoting: of the majority rule, where the table has a slip for each box, those that

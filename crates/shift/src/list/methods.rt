@@ -1,5 +1,5 @@
 // Numbers with commas between them, read into a list.
-ghost use Rattle.std.specs.Prelude.{◌≡◌, ℕ, ◌<◌, ◌≤◌, List, [], ◌∷◌, ◌++◌, length};
+ghost use Rattle.std.specs.Prelude.{◌≡◌, ℕ, ◌≤◌, List, [], None, length};
 ghost use Rattle.shift.specs.Lists.{added, extended, listed, numbers};
 ghost use Rattle.shift.specs.Numbers.{number as number_in};
 ghost use Rattle.std.specs.Option.{option_map};
@@ -28,38 +28,24 @@ impl Numbers {
         &self.items[0..self.count]
     }
 
-    // How many numbers there are.
-    fn len(&self) -> usize
-        ensures { result ≡ length (listed self.now) }
+    // Puts one more number at the end, if there is room.
+    pub fn push(&mut self, n: u32) -> Option<()>
+        ensures pushed { option_map (λ u. listed self.new) result ≡ extended (listed self.old) n }
+        ensures full { result ≡ None → self.new ≡ self.old }
     {
-        self.count
-    }
-
-    // The list with one more number, for which there is room.
-    fn extend(mut self, n: u32) -> Numbers
-        requires { length (listed self) < 32 }
-        ensures { listed result ≡ listed self ++ n ∷ [] }
-    {
-        self.items[self.count] = n;
-        self.count += 1;
-        self
-    }
-
-    // The list with one more number, if it has room.
-    pub fn with(self, n: u32) -> Option<Numbers>
-        ensures { option_map listed result ≡ extended (listed self) n }
-    {
-        if self.len() == ROOM {
+        if self.count == ROOM {
             return None;
         }
-        Some(self.extend(n))
+        self.items[self.count] = n;
+        self.count += 1;
+        Some(())
     }
 
-    // The list with the number that the piece writes, if it is one and has room.
-    fn with_piece(self, piece: &[u8]) -> Option<Numbers>
-        ensures { option_map listed result ≡ added (listed self) (number_in piece.now) }
+    // Puts the number that the piece writes at the end, if it is one and there is room.
+    fn push_piece(&mut self, piece: &[u8]) -> Option<()>
+        ensures { option_map (λ u. listed self.new) result ≡ added (listed self.old) (number_in piece.now) }
     {
-        self.with(number(piece)?)
+        self.push(number(piece)?)
     }
 }
 
@@ -76,7 +62,7 @@ impl Form for Numbers {
     {
         let mut list = Numbers::empty();
         for piece in value.split(|b| Class::Comma.has(*b)) {
-            list = list.with_piece(piece)?;
+            list.push_piece(piece)?;
         }
         Some(list)
     }

@@ -17,14 +17,14 @@ loop-i-init g c =
 
 pub loop-i-preserved-in-Some-untried : goal.loop-i-preserved-in-Some-untried
 loop-i-preserved-in-Some-untried g c =
-    turn_counts g.met.V.Setup.ordered (map (g.F.Field.reads c.args.field.now) c.args.row.now) c.args.heard _ _ c.in-Some.i c.loop-i.counted c.in-Some.ensures.steps _ c.untried.ensures c.loop-i.most c.in-Some-untried.v _ _ _ _ c.in-Some-untried.is
+    turn_counts g.met.V.Setup.ordered (map (g.F.Field.reads c.args.field.now) c.args.row.now) c.args.heard _ _ c.in-Some.i c.loop-i.counted c.in-Some.ensures.steps _ c.untried.ensures c.loop-i.most c.in-Some-untried.v _ _ _ _ c.ranges.heard.fits c.loop-i.auto.counted-fits.fits c.in-Some-untried.is
     c.boxes_with-senders.ensures c.size.ensures.value c.sooner-most.ensures.value refl c.loop-i.invariant
 
 pub loop-i-preserved : goal.loop-i-preserved
 loop-i-preserved g c =
     turn_keeps g.met.V.Setup.ordered (map (g.F.Field.reads c.args.field.now) c.args.row.now) c.args.heard _ _ c.in-Some.i c.loop-i.counted c.in-Some.ensures.steps _ c.untried.ensures c.loop-i.most c.in_default.is c.loop-i.invariant
 
-value : (g : Over) (c : goal.After-map g) → c.map.result ≡ most_often g.V.Setup.before (among (map (g.F.Field.reads c.args.field.now) c.args.row.now) c.args.heard 0)
+value : (g : Over) (c : goal.After-map g) → c.map.result ≡ most_often g.V.Setup.before (among (map (g.F.Field.reads c.args.field.now) c.args.row.now) c.args.heard)
 value g c =
     let named : c.map.result ≡ option_map (λ d. d.1) c.loop-i.most = search (rules, chains) in
     named ∙ ap (option_map (λ d. d.1)) (all_counted g.met.V.Setup.ordered _ c.args.heard _ c.loop-i.counted c.loop-i.most c.in-None.ensures.steps.0 c.loop-i.invariant)

@@ -6,7 +6,7 @@ use Rattle.procedures.proofs.Finding.{all_sent, unanimous_found, unanimous_law}
 use Rattle.procedures.proofs.received.unanimous.Given.{Over}
 use Rattle.procedures.proofs.received.unanimous.Goals as goal
 
-value : (g : Over) (c : goal.After-filter g) → c.filter.result ≡ unanimous g.V.Setup.before c.args.heard (among (map (g.F.Field.reads c.args.field.now) c.args.row.now) c.args.heard 0)
+value : (g : Over) (c : goal.After-filter g) → c.filter.result ≡ unanimous g.V.Setup.before c.args.heard (among (map (g.F.Field.reads c.args.field.now) c.args.row.now) c.args.heard)
 value g c =
     let row = map (g.F.Field.reads c.args.field.now) c.args.row.now in
     let filtered : c.filter.result ≡ option_and_then (all_sent g.met.V.Setup.ordered row c.args.heard) c.lowest_sent.result = search rules in

@@ -6,4 +6,4 @@ use Rattle.setup.proofs.having.all_have.Given as goal
 abbrev pub invariant-loop-i : goal.invariant-loop-i
 invariant-loop-i g l =
     let row = map (g.F.Field.reads l.field) l.row in
-    (boxes_with g.V.Setup.before l.v (among row l.set 0) == l.set) ≡ (boxes_with g.V.Setup.before l.v (among row l.i-iterator.left 0) == l.i-iterator.left)
+    (boxes_with g.V.Setup.before l.v (among row l.set) == l.set) ≡ (boxes_with g.V.Setup.before l.v (among row l.i-iterator.left) == l.i-iterator.left)

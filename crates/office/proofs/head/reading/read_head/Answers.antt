@@ -4,5 +4,5 @@ use Rattle.office.proofs.head.reading.read_head.Goals as goal
 
 pub invariant_of-result : goal.invariant_of-result
 invariant_of-result c =
-    let asked = meant_boxes c.new.result c.in_ok-procedure.procedure c.new-rule.result c.in_ok-rule.rule c.in_ok-roster.roster.boxes c.new.ensures c.new-rule.ensures.rule in
+    let asked = meant_boxes c.new.result c.in_ok-procedure.procedure c.named_rule.result c.in_ok-rule.rule c.in_ok-roster.roster.boxes c.new.ensures c.named_rule.ensures.rule in
     record { proposed = c.in_ok-setups.ensures.count ∙ sym asked }

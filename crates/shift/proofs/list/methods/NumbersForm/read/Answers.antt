@@ -12,14 +12,14 @@ loop-piece-preserved c =
     let pieces = YieldsList-from_slice_split _ (is Comma) c.args.value.now c.loop-piece.invariant.whole (cc) (cc) (λ x b q k. search rules) in
     record {
       whole = c.loop-piece.invariant.whole;
-      so_far = goes_on _ _ (numbers c.args.value.now) pieces _ _ _ c.loop-piece.yielded_by c.loop-piece.invariant.so_far _ c.in-Some.piece c.in-Some.is c.next.ensures.steps (listed c.in_ok-list.list) c.in_ok-list.ensures;
+      so_far = goes_on _ _ (numbers c.args.value.now) pieces _ _ _ c.loop-piece.yielded_by c.loop-piece.invariant.so_far _ c.in-Some.piece c.in-Some.is c.next.ensures.steps (listed c.push_piece.new.self) c.in_ok-push_piece.ensures;
     }
 
-pub returns-in_err-list : goal.returns-in_err-list
-returns-in_err-list c =
+pub returns-in_err-push_piece : goal.returns-in_err-push_piece
+returns-in_err-push_piece c =
     let pieces = YieldsList-from_slice_split _ (is Comma) c.args.value.now c.loop-piece.invariant.whole (cc) (cc) (λ x b q k. search rules) in
     ap (option_map listed) c.from_residual.ensures
-    ∙ ends _ _ (numbers c.args.value.now) pieces _ _ _ c.loop-piece.yielded_by c.loop-piece.invariant.so_far _ c.in-Some.piece c.in-Some.is c.next.ensures.steps c.in_err-list.ensures
+    ∙ ends _ _ (numbers c.args.value.now) pieces _ _ _ c.loop-piece.yielded_by c.loop-piece.invariant.so_far _ c.in-Some.piece c.in-Some.is c.next.ensures.steps c.in_err-push_piece.ensures
 
 pub returns : goal.returns
 returns c =
