@@ -14,10 +14,14 @@ pub trait Procedure {
     fn rule(&self) -> &Self::Rule;
 
     /// Whether a box that heard this set may go on.
-    fn admits(&self, heard: BoxSet) -> bool;
+    fn admits(&self, _heard: BoxSet) -> bool {
+        true
+    }
 
     /// Whether this set is clear: two phases in which all hear such sets bring them to hold a setup.
-    fn is_clear(&self, heard: BoxSet) -> bool;
+    fn is_clear(&self, heard: BoxSet) -> bool {
+        self.rule().is_quorum(heard)
+    }
 
     /// The new slip of a box that has `slip` and heard these boxes of the table.
     fn next(&self, phase: u16, beat: u8, slip: Slip, table: &[Slip], heard: BoxSet) -> Slip;
@@ -46,10 +50,6 @@ impl<R: ClearView> Procedure for Fast<R> {
 
     fn rule(&self) -> &R {
         &self.0
-    }
-
-    fn admits(&self, _heard: BoxSet) -> bool {
-        true
     }
 
     fn is_clear(&self, heard: BoxSet) -> bool {
@@ -100,10 +100,6 @@ impl<R: Rule> Procedure for Observing<R> {
         self.0.is_quorum(heard)
     }
 
-    fn is_clear(&self, heard: BoxSet) -> bool {
-        self.0.is_quorum(heard)
-    }
-
     fn next(&self, _phase: u16, beat: u8, slip: Slip, table: &[Slip], heard: BoxSet) -> Slip {
         match beat {
             0 => self.look(slip, table, heard),
@@ -145,14 +141,6 @@ impl<R: Rule> Procedure for Latest<R> {
 
     fn rule(&self) -> &R {
         &self.0
-    }
-
-    fn admits(&self, _heard: BoxSet) -> bool {
-        true
-    }
-
-    fn is_clear(&self, heard: BoxSet) -> bool {
-        self.0.is_quorum(heard)
     }
 
     fn next(&self, phase: u16, beat: u8, slip: Slip, table: &[Slip], heard: BoxSet) -> Slip {

@@ -1,5 +1,4 @@
 // Kinds of setup, and the search at each.
-use quorum::sets::BoxSet;
 use setup::cards::Card;
 use setup::orders::Setup;
 use setup::search::{Optional, Plain, first};
