@@ -2,7 +2,7 @@
 use Rattle.std.proofs.Common.{◌≡◌, ℕ, zero, suc, ◌+◌, ◌≤◌, Bool, List, [], ◌∷◌, map, length, Some, None, Ok, Err, Option, Result, refl, sym, ap, ◌∙◌, subst, arith}
 use Rattle.std.proofs.lemmas.Bool.{eq-eqb}
 use Rattle.std.specs.Option.{option_map}
-use Rattle.quorum.specs.Boxes.{IsLowest, lowest}
+use Rattle.quorum.specs.Boxes.{IsLowest}
 use Rattle.quorum.specs.Refusals.{Does, either, unless}
 use Rattle.quorum.proofs.Lowest.{lowest_is_lowest}
 use Rattle.setup.specs.Kinds.{number_before}
@@ -10,7 +10,8 @@ use Rattle.setup.specs.Lawful.{unsigned_ordered}
 use Rattle.quorum.specs.declared.refusals.Refusal.{Refusal}
 use Rattle.agreement.specs.declared.faults.RunFault.{RunFault}
 use Rattle.agreement.specs.declared.faults.RunFault.TheVariants as fault
-use Rattle.agreement.specs.Calls.{Waiting, beginning, no_beat, no_opening, waits}
+use Rattle.agreement.specs.Calls.{Waiting, beginning, no_opening, waits}
+use Rattle.agreement.specs.Inside.{lowest_waiting, no_beat_lowest}
 use Rattle.agreement.specs.Laws.{Lawful}
 use Rattle.agreement.specs.Promise.{Call, Holds, Leaves, Moment, Promised, Worked, beat}
 use Rattle.agreement.specs.Protocols.{Protocol}
@@ -34,13 +35,9 @@ after p m hs zero = m
 after p m [] (suc t) = after p (moved p m []) [] t
 after p m (heard ∷ hs) (suc t) = after p (moved p m heard) hs t
 
--- the lowest box that must wait
-abbrev first_waiting : Protocol ℕ → Moment ℕ → List ℕ → Option ℕ
-first_waiting p m heard = lowest (waits p m.clock.phase m.clock.beat heard) p.rule.boxes
-
 -- why the run declines a beat
 abbrev reason : Protocol ℕ → Moment ℕ → List ℕ → Option RunFault
-reason p m heard = no_beat p m.clock p.rule.boxes p.rule.boxes heard (first_waiting p m heard)
+reason p m heard = no_beat_lowest p m.clock p.rule.boxes p.rule.boxes heard
 
 -- the beat as a call, the sheet being a copy of the table
 abbrev call_by : Option RunFault → Moment ℕ → List ℕ → Call ℕ
@@ -63,8 +60,8 @@ opened_length (v ∷ vs) = ap suc (opened_length vs)
 
 module _ (p : Protocol ℕ) where
   -- the lowest box that must wait is one
-  waiting : (m : Moment ℕ) (heard : List ℕ) → Waiting p m.clock.phase m.clock.beat heard (first_waiting p m heard)
-  waiting m heard = go (first_waiting p m heard) (lowest_is_lowest (waits p m.clock.phase m.clock.beat heard) p.rule.boxes)
+  waiting : (m : Moment ℕ) (heard : List ℕ) → Waiting p m.clock.phase m.clock.beat heard (lowest_waiting p m.clock heard)
+  waiting m heard = go (lowest_waiting p m.clock heard) (lowest_is_lowest (waits p m.clock.phase m.clock.beat heard) p.rule.boxes)
     where
       go : (w : Option ℕ) → IsLowest (waits p m.clock.phase m.clock.beat heard) p.rule.boxes w → Waiting p m.clock.phase m.clock.beat heard w
       go None is = is
@@ -72,12 +69,12 @@ module _ (p : Protocol ℕ) where
 
   -- a beat that is offered is such a call, on a table with a slip for each box
   leaves : (m : Moment ℕ) (heard : List ℕ) → length m.table ≡ p.rule.boxes → Leaves p m (call_by (reason p m heard) m heard) (moved p m heard)
-  leaves m heard size = go (reason p m heard) (ap (λ (k : ℕ). no_beat p m.clock k k heard (first_waiting p m heard)) size)
+  leaves m heard size = go (reason p m heard) (ap (λ (k : ℕ). no_beat_lowest p m.clock k k heard) size)
     where
-      go : (r : Option RunFault) → no_beat p m.clock (length m.table) (length m.table) heard (first_waiting p m heard) ≡ r
+      go : (r : Option RunFault) → no_beat_lowest p m.clock (length m.table) (length m.table) heard ≡ r
           → Leaves p m (call_by r m heard) (moved_by (option_map refusal_of r) p m heard)
-      go None is = (first_waiting p m heard, waiting m heard, does_as _ None _ _ (Ok tt) is (refl, refl, refl))
-      go (Some f) is = (first_waiting p m heard, waiting m heard, does_as _ (Some f) _ _ (Err f) is (refl, (refl, refl, refl)))
+      go None is = (lowest_waiting p m.clock heard, waiting m heard, does_as _ None _ _ (Ok tt) is (refl, refl, refl))
+      go (Some f) is = (lowest_waiting p m.clock heard, waiting m heard, does_as _ (Some f) _ _ (Err f) is (refl, (refl, refl, refl)))
 
   -- and it leaves as many slips as there were, so every later one is such a call too
   pub moved_length : (m : Moment ℕ) (heard : List ℕ) → length (moved p m heard).table ≡ length m.table
@@ -108,7 +105,7 @@ module _ (p : Protocol ℕ) where
     -- the beats work a run
     worked : (calls : ℕ) → Worked p proposals calls (call p (start proposals) hs) at
     worked calls = record {
-      blank = opened proposals;
+      found = opened proposals;
       opens = does_as _ None _ _ (Ok beginning) opens (refl, refl);
       goes = λ t lt. all_leave (start proposals) hs t size;
     }

@@ -12,7 +12,7 @@ use Rattle.shift.specs.declared.faults.TextFault.{TextFault}
 use Rattle.shift.specs.Entries.{after}
 use Rattle.shift.specs.Faults.{at_line}
 use Rattle.office.specs.Agreed.{phase_numbers}
-use Rattle.office.specs.Answers.{beats, beats_by, ended, line_ends, outcome, outcome_by, refused, start, with_beat}
+use Rattle.office.specs.Answers.{beats, beats_by, ended_phase, line_ends, outcome, outcome_by, refused, start, with_beat}
 use Rattle.office.specs.Heads.{Begun, beat}
 use Rattle.office.specs.Shown.{Shown, and_after}
 use Rattle.office.specs.Shown.Shown.{fault, phase}
@@ -42,7 +42,7 @@ From m es = Counted m.clock.phase (phase_numbers es)
 
 -- a phase that ends is the one that was due, and the next one is due then
 ended_counted : (more : Bool) (c : Clock) (table : List (Slip ℕ)) (es : List Shown) → From (clocked more c table) es
-    → Counted c.phase (phase_numbers (and_after (ended c.phase (clocked more c table)) es))
+    → Counted c.phase (phase_numbers (and_after (ended_phase c.phase (clocked more c table)) es))
 ended_counted true c table es r =
     subst (λ (b : Bool). Counted c.phase (phase_numbers (and_after (cond b (Some (phase c.phase (casts table) (held table))) None) es)))
     (sym (ne_eqb (c.beat + 1) 0 (λ e. omega (arith, e)))) r

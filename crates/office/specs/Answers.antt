@@ -2,11 +2,11 @@
 use Rattle.std.specs.Prelude.{ℕ, zero, suc, ◌+◌, cond, List, [], ◌∷◌, length, Some, None, Ok, Err, Option, Result, ◌==◌}
 use Rattle.std.specs.List.{count_by}
 use Rattle.std.specs.Option.{option_map}
-use Rattle.quorum.specs.Boxes.{lowest}
 use Rattle.quorum.specs.declared.refusals.Refusal.{Refusal}
 use Rattle.agreement.specs.declared.faults.RunFault.{RunFault}
-use Rattle.agreement.specs.Calls.{advanced, beginning, no_beat, waits}
+use Rattle.agreement.specs.Calls.{advanced, beginning}
 use Rattle.agreement.specs.Faults.{of_run}
+use Rattle.agreement.specs.Inside.{no_beat_lowest}
 use Rattle.agreement.specs.Promise.{Moment}
 use Rattle.agreement.specs.Protocols.{Protocol, beaten}
 use Rattle.agreement.specs.Slips.{casts, held, opened}
@@ -29,19 +29,19 @@ refusal_of f = (of_run f).refusal
 
 -- why a run at this moment declines a beat with these heard sets
 abbrev pub refused : Protocol ℕ → Moment ℕ → List ℕ → Option Refusal
-refused p m heard = option_map refusal_of (no_beat p m.clock p.rule.boxes p.rule.boxes heard (lowest (waits p m.clock.phase m.clock.beat heard) p.rule.boxes))
+refused p m heard = option_map refusal_of (no_beat_lowest p m.clock p.rule.boxes p.rule.boxes heard)
 
 -- the moment after a beat that is taken
 abbrev pub following : Protocol ℕ → Moment ℕ → List ℕ → Moment ℕ
 following p m heard = record { clock = advanced p.beats m.clock; table = beaten p m.clock.phase m.clock.beat heard m.table }
 
 -- phase k, where it has ended: beat 0 of the next one is due
-abbrev pub ended : ℕ → Moment ℕ → Option Shown
-ended k m = cond (m.clock.beat == 0) (Some (phase k (casts m.table) (held m.table))) None
+abbrev pub ended_phase : ℕ → Moment ℕ → Option Shown
+ended_phase k m = cond (m.clock.beat == 0) (Some (phase k (casts m.table) (held m.table))) None
 
 -- what comes of a beat: what is shown of it, and the moment after it. One that is declined is shown, and moves nothing.
 abbrev pub outcome_by : Option Refusal → Protocol ℕ → Moment ℕ → List ℕ → Option Shown × Moment ℕ
-outcome_by None p m heard = (ended m.clock.phase (following p m heard), following p m heard)
+outcome_by None p m heard = (ended_phase m.clock.phase (following p m heard), following p m heard)
 outcome_by (Some r) p m heard = (Some (declined r), m)
 
 abbrev pub outcome : Protocol ℕ → Moment ℕ → List ℕ → Option Shown × Moment ℕ

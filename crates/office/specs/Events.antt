@@ -30,4 +30,3 @@ shown_as (Fault f) = fault f
 abbrev pub seen : Sign → List (Slip ℕ) → Shown
 seen (sign.Declined r) table = declined r
 seen (sign.Ended k) table = phase k (casts table) (held table)
-seen (sign.Fault f) table = fault f

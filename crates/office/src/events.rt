@@ -7,6 +7,7 @@ use crate::rows::Row;
 use quorum::refusals::Refusal;
 use shift::faults::TextFault;
 use std::fmt;
+use std::fmt::Display;
 
 // A phase that was finished: its number, and of each box what it voted for in it, and what it holds.
 #[derive(Clone, Copy)]
@@ -32,16 +33,18 @@ impl fmt::Display for Event<'_> {
     fn fmt<W: fmt::Write>(&self, f: &mut fmt::Formatter<W>) -> fmt::Result {
         match self {
             Event::Declined(refusal) => {
-                let number = refusal.number();
-                write!(f, "declined={number}")
+                f.write_str("declined=")?;
+                refusal.number().fmt(f)
             },
             Event::Phase(phase) => {
-                let number = phase.number;
-                let votes = &phase.votes;
-                let held = &phase.held;
-                write!(f, "phase={number}\nvotes={votes}\nheld={held}")
+                f.write_str("phase=")?;
+                phase.number.fmt(f)?;
+                f.write_str("\nvotes=")?;
+                phase.votes.fmt(f)?;
+                f.write_str("\nheld=")?;
+                phase.held.fmt(f)
             },
-            Event::Fault(fault) => write!(f, "{fault}"),
+            Event::Fault(fault) => fault.fmt(f),
         }
     }
 }

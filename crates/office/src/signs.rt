@@ -1,4 +1,4 @@
-// What a step of an answer comes to, before the rows of a phase are looked at.
+// What a beat shows, before the rows of a phase are looked at.
 ghost use Rattle.std.specs.Prelude.{◌≡◌};
 ghost use Rattle.office.specs.Events.{seen, shown_as};
 
@@ -6,16 +6,13 @@ use crate::events::{Event, Phase};
 use crate::rows::{Column, Row};
 use agreement::slips::Slip;
 use quorum::refusals::Refusal;
-use shift::faults::TextFault;
 
 #[derive(Clone, Copy)]
 pub(crate) enum Sign {
-    // a beat that the run declined, and why
+    // the run declined the beat, and why
     Declined(Refusal),
     // the phase of this number has ended
     Ended(u32),
-    // the fault that ends the reading
-    Fault(TextFault),
 }
 
 impl Sign {
@@ -30,7 +27,6 @@ impl Sign {
                 votes: Row::new(Column::Cast, table),
                 held: Row::new(Column::Held, table),
             }),
-            Sign::Fault(fault) => Event::Fault(fault),
         }
     }
 }

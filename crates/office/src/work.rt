@@ -3,9 +3,11 @@ ghost use Rattle.std.specs.Prelude.{◌≡◌, ◌≤◌, length};
 ghost use Rattle.office.specs.Named.{meant};
 
 use crate::named_procedure::NamedProcedure;
+use crate::signs::Sign;
 use agreement::runs::Run;
 use agreement::slips::Slip;
 use quorum::sets::MAX_BOXES;
+use shift::list::Numbers;
 
 mod methods;
 
@@ -19,6 +21,10 @@ pub(crate) struct Work {
     boxes: usize,
     table: [Slip<u32>; ROOM],
     sheet: [Slip<u32>; ROOM],
+    // the heard sets of the last line
+    heard: Numbers,
+    // what the last beat shows, if anything
+    sign: Option<Sign>,
     ghost roster: { (meant run.procedure).rule.boxes ≡ boxes },
     ghost fits: { boxes ≤ 32 },
     ghost table_room: { length table ≡ 32 },

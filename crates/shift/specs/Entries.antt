@@ -9,8 +9,8 @@ abbrev pub of_line : Option (List ℕ × List ℕ) → Option (List ℕ × List 
 of_line None = None
 of_line (Some p) = parted (is Equals) p.0
 
-abbrev pub entry : List ℕ → Option (List ℕ × List ℕ)
-entry t = of_line (parted (is LineEnd) t)
+abbrev pub key_and_value : List ℕ → Option (List ℕ × List ℕ)
+key_and_value t = of_line (parted (is LineEnd) t)
 
 abbrev pub rest_of : Option (List ℕ × List ℕ) → List ℕ
 rest_of None = []

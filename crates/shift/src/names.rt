@@ -1,8 +1,6 @@
 // The rules and the procedures that a text can ask for, by name.
 ghost use Rattle.std.specs.Prelude.{◌≡◌};
 ghost use Rattle.shift.specs.Names.{procedure, rule};
-ghost use Rattle.shift.specs.declared.names.ProcedureName.{ProcedureName};
-ghost use Rattle.shift.specs.declared.names.RuleName.{RuleName};
 
 use crate::forms::Form;
 
@@ -14,10 +12,6 @@ pub enum RuleName {
 }
 
 impl Form for RuleName {
-    ghost Said = { RuleName };
-
-    ghost said = { λ name. name };
-
     ghost form = { rule };
 
     // The rule that the value names.
@@ -42,10 +36,6 @@ pub enum ProcedureName {
 }
 
 impl Form for ProcedureName {
-    ghost Said = { ProcedureName };
-
-    ghost said = { λ name. name };
-
     ghost form = { procedure };
 
     // The procedure that the value names.

@@ -1,5 +1,5 @@
 // A number in decimal digits.
-ghost use Rattle.std.specs.Prelude.{◌≡◌, ℕ, if◌then◌else◌, None};
+ghost use Rattle.std.specs.Prelude.{◌≡◌, if◌then◌else◌, None};
 ghost use Rattle.shift.specs.Classes.{digit};
 ghost use Rattle.shift.specs.Numbers.{appended, fitting, led, number};
 
@@ -43,10 +43,6 @@ pub fn number(value: &[u8]) -> Option<u32>
 }
 
 impl Form for u32 {
-    ghost Said = { ℕ };
-
-    ghost said = { λ n. n };
-
     ghost form = { number };
 
     fn read(value: &[u8]) -> Option<u32>

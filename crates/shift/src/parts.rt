@@ -1,7 +1,7 @@
 // A text in parts: before and after the first byte of a class, and the key and the value of a line.
 ghost use Rattle.std.specs.Prelude.{◌≡◌, ◌+◌, ◌<◌, ◌≤◌, length, IfSome};
 ghost use Rattle.shift.specs.Classes.{is};
-ghost use Rattle.shift.specs.Entries.{entry};
+ghost use Rattle.shift.specs.Entries.{key_and_value};
 ghost use Rattle.shift.specs.Parts.{both, parted};
 ghost use Rattle.std.specs.List.{position};
 ghost use Rattle.std.specs.Option.{option_map};
@@ -26,8 +26,8 @@ pub(crate) fn split(text: &[u8], class: Class) -> Option<(&[u8], &[u8])>
 }
 
 // The key and the value of the first line, where that has an end and an equals sign.
-pub(crate) fn entry(text: &[u8]) -> Option<(&[u8], &[u8])>
-    ensures value { option_map both result ≡ entry text.now }
+pub(crate) fn key_and_value(text: &[u8]) -> Option<(&[u8], &[u8])>
+    ensures value { option_map both result ≡ key_and_value text.now }
     ensures len { IfSome result (λ p. length p.0.now + length p.1.now + 2 ≤ length text.now) }
 {
     let (line, _) = split(text, Class::LineEnd)?;

@@ -38,6 +38,11 @@ fn due<T: Form>(reader: &mut Reader<'_>, key: &[u8]) -> Result<T, TextFault> {
     reader.due(key)?.read()
 }
 
+// The numbers of the next line, which is to be a beat.
+fn heard(reader: &mut Reader<'_>, list: &mut Numbers) -> Result<(), TextFault> {
+    reader.due(b"beat")?.read_numbers(list)
+}
+
 fn fault(cause: Cause, line: usize, column: usize) -> TextFault {
     TextFault {
         cause,
@@ -45,7 +50,7 @@ fn fault(cause: Cause, line: usize, column: usize) -> TextFault {
     }
 }
 
-// A refusal reads nothing.
+// A refusal reads nothing, and leaves no numbers in a list.
 #[test]
 fn lines_in_turn(rt: HostRuntime) {
     let mut reader = Reader::new(b"boxes=2\nrule=thirds\nbeat=1,x\n");
@@ -58,10 +63,15 @@ fn lines_in_turn(rt: HostRuntime) {
         (false, Err::<u32, _>(fault(Cause::Key, 1, 1)), Ok(2u32))
     );
     assert_eq!(rt; due(&mut reader, b"rule"), Ok(RuleName::Thirds));
-    let beat = due::<Numbers>(&mut reader, b"beat").err();
+    let mut list = Numbers::empty();
+    let _ = list.push(7);
     assert_eq!(rt;
-        (beat, reader.at_end()),
-        (Some(fault(Cause::Value, 3, 6)), true)
+        (
+            heard(&mut reader, &mut list),
+            list.as_slice().is_empty(),
+            reader.at_end()
+        ),
+        (Err(fault(Cause::Value, 3, 6)), true, true)
     );
     assert_eq!(rt;
         due::<u32>(&mut reader, b"beat"),

@@ -1,19 +1,17 @@
 // An answer, and the steps by which it goes on: each comes to one thing that is shown, or to nothing, until nothing is left.
-ghost use Rattle.std.specs.Prelude.{◌≡◌, ◌<◌, ◌⊎◌, drop, true};
+ghost use Rattle.std.specs.Prelude.{◌≡◌, ◌<◌, ◌⊎◌, drop, false, true};
 ghost use Rattle.std.specs.Option.{option_map};
 ghost use Rattle.office.specs.Agreed.{Agreed, proposals};
 ghost use Rattle.office.specs.Answers.{answer};
-ghost use Rattle.office.specs.Coming.{ahead, coming, done, steps, table_of, to_come};
-ghost use Rattle.office.specs.Events.{seen, shown_as};
-ghost use Rattle.office.specs.Shown.{and_after, first_of};
-ghost use Rattle.office.specs.Stages.{within_limit};
+ghost use Rattle.office.specs.Coming.{ahead, coming, steps, to_come};
+ghost use Rattle.office.specs.Events.{shown_as};
+ghost use Rattle.office.specs.Shown.{first_of};
+ghost use Rattle.office.specs.Stages.{here, silent, within_limit};
 
 use crate::answers::{Answer, Stage};
 use crate::events::Event;
-use crate::head::reading::{read_beat, read_head};
-use crate::signs::Sign;
+use crate::head::reading::read_head;
 use crate::work::Work;
-use agreement::slips::Slip;
 use shift::reader::Reader;
 
 impl<'a> Answer<'a> {
@@ -28,81 +26,84 @@ impl<'a> Answer<'a> {
             Ok(head) => Stage::Working(Work::open(head)),
             Err(fault) => Stage::Faulty(fault),
         };
-        let sign = next_sign(&mut reader, &mut stage);
-        Answer {
-            reader,
-            stage,
-            sign,
-        }
+        seek(&mut reader, &mut stage);
+        Answer { reader, stage }
     }
 
     // What is shown here, if anything is left.
     pub fn event(&self) -> Option<Event<'_>>
         ensures { option_map shown_as result ≡ first_of (to_come self.now) }
     {
-        Some(self.sign?.event(self.stage.table()))
+        self.stage.event()
     }
 
     // Goes on to what is shown next.
     pub fn advance(&mut self)
         ensures { to_come self.new ≡ drop 1 (to_come self.old) }
     {
-        if self.sign.is_some() {
-            self.sign = next_sign(&mut self.reader, &mut self.stage);
-        }
+        leave(&mut self.reader, &mut self.stage);
     }
 }
 
 impl Stage {
-    // Whether nothing is left.
-    fn is_done(&self) -> bool
-        ensures { result ≡ done self.now }
-    {
-        matches!(self, Stage::Done)
-    }
-
-    // The table of the run, where one is at work.
-    fn table(&self) -> &[Slip<u32>]
-        ensures { result.now ≡ table_of self.now }
+    // Whether nothing is shown here, and more is to come.
+    fn is_silent(&self) -> bool
+        ensures { result ≡ silent self.now }
     {
         match self {
-            Stage::Working(work) => work.table(),
-            _ => &[],
+            Stage::Working(work) => work.is_silent(),
+            _ => false,
+        }
+    }
+
+    // What is shown here, if anything is.
+    fn event(&self) -> Option<Event<'_>>
+        ensures { option_map shown_as result ≡ here self.now }
+    {
+        match self {
+            Stage::Working(work) => work.event(),
+            Stage::Faulty(fault) => Some(Event::Fault(*fault)),
+            Stage::Done => None,
         }
     }
 }
 
-// A step of reader and stage.
-fn go_on(reader: &mut Reader<'_>, stage: &mut Stage) -> Option<Sign>
+// Goes on by one line, or to the end.
+fn go_on(reader: &mut Reader<'_>, stage: &mut Stage)
     requires { within_limit stage.old reader.old.text.now ≡ true }
-    ensures shows { coming stage.old reader.old ≡ and_after (option_map (λ sign. seen sign (table_of stage.new)) result) (coming stage.new reader.new) }
+    ensures comes { coming stage.new reader.new ≡ ahead stage.old reader.old }
     ensures short { within_limit stage.new reader.new.text.now ≡ true }
     ensures progress { (steps stage.old reader.old ≡ 0) ⊎ (steps stage.new reader.new < steps stage.old reader.old) }
 {
-    let shown = match stage {
-        Stage::Done => None,
-        Stage::Faulty(fault) => Some(Sign::Fault(*fault)),
-        Stage::Working(_) if reader.at_end() => None,
-        Stage::Working(work) => match read_beat(reader) {
-            Ok(heard) => return work.beat(heard.as_slice()),
-            Err(fault) => Some(Sign::Fault(fault)),
+    match stage {
+        Stage::Working(work) if !reader.at_end() => match work.read(reader) {
+            Ok(()) => work.beat(),
+            Err(fault) => *stage = Stage::Faulty(fault),
         },
-    };
-    *stage = Stage::Done;
-    shown
+        _ => *stage = Stage::Done,
+    }
 }
 
-// Goes on until something is to be shown, or nothing is left.
+// Goes on until something is shown, or nothing is left.
 #[tactic(auto, using(crate::proofs::Steps::turns))]
-fn next_sign(reader: &mut Reader<'_>, stage: &mut Stage) -> Option<Sign>
+fn seek(reader: &mut Reader<'_>, stage: &mut Stage)
     requires { within_limit stage.old reader.old.text.now ≡ true }
-    ensures shows { coming stage.old reader.old ≡ ahead result stage.new reader.new }
+    ensures comes { coming stage.new reader.new ≡ coming stage.old reader.old }
     ensures short { within_limit stage.new reader.new.text.now ≡ true }
+    ensures shows { silent stage.new ≡ false }
 {
-    while !stage.is_done() {
-        if let Some(sign) = go_on(reader, stage) {
-            return Some(sign);
-        }
+    while stage.is_silent() {
+        go_on(reader, stage);
     }
-    None
+}
+
+// Leaves what is shown here, and goes on until something is shown again, or nothing is left.
+fn leave(reader: &mut Reader<'_>, stage: &mut Stage)
+    requires { within_limit stage.old reader.old.text.now ≡ true }
+    ensures comes { coming stage.new reader.new ≡ ahead stage.old reader.old }
+    ensures short { within_limit stage.new reader.new.text.now ≡ true }
+    ensures shows { silent stage.new ≡ false }
+{
+    go_on(reader, stage);
+    seek(reader, stage);
 }

@@ -38,9 +38,10 @@ fn read_roster(reader: &mut Reader<'_>) -> Result<Roster, TextFault>
     ensures read { HasRead 1 reader.old result reader.new }
 {
     let line = reader.due(b"boxes")?;
+    let spot = line.spot();
     // a `usize` holds every `u32`
     let boxes = line.read::<u32>()? as usize;
-    Ok(judge(boxes).map_err(|fault| (fault, line.spot))?)
+    Ok(judge(boxes).map_err(|fault| (fault, spot))?)
 }
 
 // The roster of this number of boxes, or the rule's fault inside the run's.
@@ -65,21 +66,21 @@ fn read_setups(reader: &mut Reader<'_>, roster: Roster) -> Result<Numbers, TextF
     Ok(setups)
 }
 
-// The heard sets of the next line, which is to be a beat.
-pub(crate) fn read_beat(reader: &mut Reader<'_>) -> Result<Numbers, TextFault>
-    ensures value { told listed result ≡ unless_long reader.old.text.now (beat reader.old.line (left reader.old)) }
+// The heard sets of the next line, which is to be a beat, in place of those of the list.
+#[tactic(auto, using(crate::proofs::Heads::short))]
+pub(crate) fn read_beat(reader: &mut Reader<'_>, heard: &mut Numbers) -> Result<(), TextFault>
+    ensures value { told (λ u. listed heard.new) result ≡ unless_long reader.old.text.now (beat reader.old.line (left reader.old)) }
     ensures read { HasRead 1 reader.old result reader.new }
     ensures moves { OnOk result (reader.old.at < reader.new.at) }
 {
-    field(reader, b"beat")
+    reader.due(b"beat")?.read_numbers(heard)
 }
 
 // The value of the next line, which is to have the key, by its form.
 #[tactic(auto, using(crate::proofs::Heads::short))]
 fn field<T: Form>(reader: &mut Reader<'_>, key: &[u8]) -> Result<T, TextFault>
-    ensures value { told T.said result ≡ unless_long reader.old.text.now (field_of key.now T.form reader.old.line (left reader.old)) }
+    ensures value { result ≡ unless_long reader.old.text.now (field_of key.now T.form reader.old.line (left reader.old)) }
     ensures read { HasRead 1 reader.old result reader.new }
-    ensures moves { OnOk result (reader.old.at < reader.new.at) }
 {
     reader.due(key)?.read()
 }

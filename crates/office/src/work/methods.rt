@@ -1,13 +1,19 @@
 // The beats of a run at work, and what is shown of each.
-ghost use Rattle.std.specs.Prelude.{◌≡◌, ◌≤◌, length};
+ghost use Rattle.std.specs.Prelude.{◌≡◌, ◌<◌, ◌≤◌, None, OnOk, is_none, length};
 ghost use Rattle.std.specs.Option.{option_map};
 ghost use Rattle.office.specs.Answers.{outcome, refused, start};
-ghost use Rattle.office.specs.Events.{seen};
+ghost use Rattle.office.specs.Events.{shown_as};
+ghost use Rattle.office.specs.Heads as heads;
 ghost use Rattle.office.specs.Named.{meant};
-ghost use Rattle.office.specs.Working.{at_work, declined_with, moment};
+ghost use Rattle.office.specs.Reading.{HasRead};
+ghost use Rattle.office.specs.Working.{at_work, declined_with, moment, shown_by};
+ghost use Rattle.shift.specs.Lines.{left, unless_long};
 ghost use Rattle.shift.specs.Lists.{listed};
+ghost use Rattle.shift.specs.Told.{told};
 
+use crate::events::Event;
 use crate::head::Head;
+use crate::head::reading::read_beat;
 use crate::named_procedure::NamedProcedure;
 use crate::signs::Sign;
 use crate::work::{ROOM, Work};
@@ -18,6 +24,9 @@ use agreement::slips::Slip;
 use quorum::refusals::Fault;
 use quorum::rules::Rule;
 use quorum::sets::BoxSet;
+use shift::faults::TextFault;
+use shift::list::Numbers;
+use shift::reader::Reader;
 
 // A beat on the first `boxes` slips of the table and the sheet.
 fn offer(
@@ -37,10 +46,11 @@ fn offer(
 }
 
 impl Work {
-    // Opens the run that the head asks for, which no opening refuses: a head has a setup for each box.
+    // Opens the run that the head asks for, which no opening refuses: a head has a setup for each box. Nothing is shown yet.
     pub(crate) fn open(head: Head) -> Work
         ensures runs { meant result.run.procedure ≡ meant head.procedure }
         ensures opens { moment result ≡ start (listed head.setups) }
+        ensures shows { shown_by result ≡ None }
     {
         let boxes = Procedure::<u32>::rule(&head.procedure).boxes();
         let mut table = [Slip::opening(0); ROOM];
@@ -50,36 +60,54 @@ impl Work {
             boxes,
             table,
             sheet: table,
+            heard: Numbers::empty(),
+            sign: None,
         }
     }
 
-    // Takes the beat that is due, or declines it, and says what is to be shown of it.
-    pub(crate) fn beat(&mut self, heard: &[BoxSet]) -> Option<Sign>
-        ensures shows { option_map (λ sign. seen sign (moment self.new).table) result ≡ (outcome (meant self.old.run.procedure) (moment self.old) heard.now).0 }
-        ensures moves { moment self.new ≡ (outcome (meant self.old.run.procedure) (moment self.old) heard.now).1 }
+    // Reads the next line, which is to be a beat.
+    pub(crate) fn read(&mut self, reader: &mut Reader<'_>) -> Result<(), TextFault>
+        ensures value { told (λ u. listed self.new.heard) result ≡ unless_long reader.old.text.now (heads.beat reader.old.line (left reader.old)) }
+        ensures read { HasRead 1 reader.old result reader.new }
+        ensures moves { OnOk result (reader.old.at < reader.new.at) }
+        ensures runs { self.new.run.procedure ≡ self.old.run.procedure }
+        ensures stands { moment self.new ≡ moment self.old }
+    {
+        read_beat(reader, &mut self.heard)
+    }
+
+    // Takes the beat that was read, or declines it.
+    pub(crate) fn beat(&mut self)
+        ensures shows { shown_by self.new ≡ (outcome (meant self.old.run.procedure) (moment self.old) (listed self.old.heard)).0 }
+        ensures moves { moment self.new ≡ (outcome (meant self.old.run.procedure) (moment self.old) (listed self.old.heard)).1 }
         ensures runs { self.new.run.procedure ≡ self.old.run.procedure }
     {
-        let due = self.run.due();
-        if let Err(fault) = offer(
+        let phase = self.run.due().phase;
+        let answer = offer(
             &mut self.run,
             self.boxes,
             &mut self.table,
             &mut self.sheet,
-            heard,
-        ) {
-            return Some(Sign::Declined(Fault::from(fault).refusal));
-        }
-        if self.run.due().beat == 0 {
-            Some(Sign::Ended(due.phase))
-        } else {
-            None
-        }
+            self.heard.as_slice(),
+        );
+        self.sign = match answer {
+            Err(fault) => Some(Sign::Declined(Fault::from(fault).refusal)),
+            Ok(()) if self.run.due().beat == 0 => Some(Sign::Ended(phase)),
+            Ok(()) => None,
+        };
     }
 
-    // The slips of the roster.
-    pub(crate) fn table(&self) -> &[Slip<u32>]
-        ensures { result.now ≡ (moment self.now).table }
+    // Whether nothing is shown here.
+    pub(crate) fn is_silent(&self) -> bool
+        ensures { result ≡ is_none (shown_by self.now) }
     {
-        &self.table[..self.boxes]
+        self.sign.is_none()
+    }
+
+    // What is shown here, if anything is.
+    pub(crate) fn event(&self) -> Option<Event<'_>>
+        ensures { option_map shown_as result ≡ shown_by self.now }
+    {
+        Some(self.sign?.event(&self.table[..self.boxes]))
     }
 }

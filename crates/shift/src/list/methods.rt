@@ -1,11 +1,10 @@
 // Numbers with commas between them, read into a list.
-ghost use Rattle.std.specs.Prelude.{◌≡◌, ℕ, ◌≤◌, List, [], None, length};
+ghost use Rattle.std.specs.Prelude.{◌≡◌, ◌≤◌, [], None, length};
 ghost use Rattle.shift.specs.Lists.{added, extended, listed, numbers};
 ghost use Rattle.shift.specs.Numbers.{number as number_in};
 ghost use Rattle.std.specs.Option.{option_map};
 
 use crate::classes::Class;
-use crate::forms::Form;
 use crate::list::{Numbers, ROOM};
 use crate::numbers::number;
 
@@ -47,23 +46,28 @@ impl Numbers {
     {
         self.push(number(piece)?)
     }
-}
 
-impl Form for Numbers {
-    ghost Said = { List ℕ };
-
-    ghost said = { listed };
-
-    ghost form = { numbers };
-
-    // The numbers that the value writes, with commas between: 1 to 32.
-    fn read(value: &[u8]) -> Option<Numbers>
-        ensures { option_map listed result ≡ numbers value.now }
+    // Puts the numbers that the value writes into an empty list, until one is refused.
+    fn fill(&mut self, value: &[u8]) -> Option<()>
+        requires { listed self.old ≡ [] }
+        ensures { option_map (λ u. listed self.new) result ≡ numbers value.now }
     {
-        let mut list = Numbers::empty();
         for piece in value.split(|b| Class::Comma.has(*b)) {
-            list.push_piece(piece)?;
+            self.push_piece(piece)?;
         }
-        Some(list)
+        Some(())
+    }
+
+    // Takes the numbers that the value writes, with commas between, in place of its own: 1 to 32. Where the value writes no such numbers, the list is empty then.
+    pub fn read(&mut self, value: &[u8]) -> Option<()>
+        ensures value { option_map (λ u. listed self.new) result ≡ numbers value.now }
+        ensures refused { result ≡ None → listed self.new ≡ [] }
+    {
+        self.count = 0;
+        let read = self.fill(value);
+        if read.is_none() {
+            self.count = 0;
+        }
+        read
     }
 }

@@ -4,9 +4,9 @@ ghost use Rattle.shift.specs.Entries.{after};
 ghost use Rattle.shift.specs.Lines.{bytes_of, due, left, lines, span, unless_long};
 ghost use Rattle.shift.specs.Told.{told};
 
-use crate::faults::{Cause, Spot, TextFault};
+use crate::faults::{Cause, TextFault};
 use crate::line::Line;
-use crate::parts::entry;
+use crate::parts::key_and_value;
 use crate::reader::{LONGEST, Reader};
 
 impl<'a> Reader<'a> {
@@ -52,22 +52,19 @@ impl<'a> Reader<'a> {
             return Err(TextFault::at_line(Cause::Long, 1));
         }
         let other = TextFault::at_line(Cause::Key, self.line);
-        let Some((found, value)) = entry(self.rest()) else {
+        let Some((found, value)) = key_and_value(self.rest()) else {
             return Err(other);
         };
         if found != key {
             return Err(other);
         }
-        let spot = Spot {
-            line: self.line,
-            column: found.len() + 2,
-        };
+        let number = self.line;
         self.at += found.len() + value.len() + 2;
         self.line += 1;
         Ok(Line {
             key: found,
             value,
-            spot,
+            number,
         })
     }
 }

@@ -1,7 +1,7 @@
 use Rattle.std.proofs.Common.{◌≡◌, true}
 use Rattle.office.specs.Coming.{coming, steps}
 use Rattle.office.specs.Stages.{within_limit}
-use Rattle.office.proofs.answers.methods.next_sign.Given as goal
+use Rattle.office.proofs.answers.methods.seek.Given as goal
 
 -- the steps so far have shown nothing
 abbrev pub invariant-loop-reader : goal.invariant-loop-reader

@@ -5,7 +5,7 @@ use Rattle.shift.specs.declared.classes.Class.TheVariants.{Comma}
 use Rattle.shift.specs.Classes.{is}
 use Rattle.shift.specs.Lists.{listed, numbers}
 use Rattle.shift.proofs.Gather.{at_most_32, goes_on, ends, closes}
-use Rattle.shift.proofs.list.methods.NumbersForm.read.Goals as goal
+use Rattle.shift.proofs.list.Numbers.fill.Goals as goal
 
 pub loop-piece-preserved : goal.loop-piece-preserved
 loop-piece-preserved c =
@@ -18,11 +18,11 @@ loop-piece-preserved c =
 pub returns-in_err-push_piece : goal.returns-in_err-push_piece
 returns-in_err-push_piece c =
     let pieces = YieldsList-from_slice_split _ (is Comma) c.args.value.now c.loop-piece.invariant.whole (cc) (cc) (λ x b q k. search rules) in
-    ap (option_map listed) c.from_residual.ensures
+    ap (option_map (λ u. listed c.push_piece.new.self)) c.from_residual.ensures
     ∙ ends _ _ (numbers c.args.value.now) pieces _ _ _ c.loop-piece.yielded_by c.loop-piece.invariant.so_far _ c.in-Some.piece c.in-Some.is c.next.ensures.steps c.in_err-push_piece.ensures
 
 pub returns : goal.returns
 returns c =
     let pieces = YieldsList-from_slice_split _ (is Comma) c.args.value.now c.loop-piece.invariant.whole (cc) (cc) (λ x b q k. search rules) in
-    let list = c.loop-piece.list in
+    let list = c.loop-piece.self in
     closes _ _ (numbers c.args.value.now) pieces _ _ _ c.loop-piece.yielded_by c.loop-piece.invariant.so_far _ c.in-None.is c.next.ensures.steps (at_most_32 list.items list.count list.len list.room)
