@@ -10,7 +10,7 @@ use Rattle.agreement.specs.declared.slips.Slip.{Slip}
 use Rattle.agreement.specs.Laws.{Due, Lawful, OneClear, Read, ended}
 use Rattle.agreement.specs.Promise.{Agreement, Call, ClearPhase, Holds, Moment, Settling, Validity, Worked}
 use Rattle.agreement.specs.Protocols.{Protocol}
-use Rattle.agreement.specs.Slips.{Stands, casts, held, news, opened, opening, setups, slip_at}
+use Rattle.agreement.specs.Slips.{Stands, casts, held, news, opened, opening, setups_of_slip, slip_at}
 use Rattle.agreement.proofs.Deciding.{one_decision}
 use Rattle.agreement.proofs.Entries.{at_held, beaten_from, beaten_item, beaten_length, field_at, field_from, item_inside, opened_from}
 use Rattle.agreement.proofs.Moments.{Advances, advances, clock_of, course, finished, heard_is, in_phase, runs, step, table_at, table_is, fills, begins}
@@ -22,7 +22,7 @@ or_from None old v e = inr (refl, e)
 or_from (Some w) old v e = inl e
 
 -- the slip of an opening has no setup but the proposal
-opening_has : {V : Type 0} (v w : V) → Stands w (setups (opening v)) → w ≡ v
+opening_has : {V : Type 0} (v w : V) → Stands w (setups_of_slip (opening v)) → w ≡ v
 opening_has v w (zero, e) = some_is (sym e)
 opening_has v w (suc zero, e) = absurd (some_none (sym e))
 opening_has v w (suc (suc zero), e) = absurd (some_none (sym e))
@@ -216,19 +216,19 @@ module _ {V : Type 0} (p : Protocol V) (law : Lawful p) (proposals : List V) (ca
   -- ---- validity
 
   -- every setup in every slip was proposed
-  sourced : (t i : ℕ) (s : Slip V) (v : V) → t ≤ calls → slip_at (at t).table i ≡ Some s → Stands v (setups s) → Stands v (map Some proposals)
+  sourced : (t i : ℕ) (s : Slip V) (v : V) → t ≤ calls → slip_at (at t).table i ≡ Some s → Stands v (setups_of_slip s) → Stands v (map Some proposals)
   sourced zero i s v le e h =
       let o = opened_from proposals i s (ap (λ (l : List (Slip V)). slip_at l i) (sym (fills p law proposals calls call at worked)) ∙ e) in
-      let same = opening_has o.0 v (subst (λ (x : Slip V). Stands v (setups x)) o.2 h) in
+      let same = opening_has o.0 v (subst (λ (x : Slip V). Stands v (setups_of_slip x)) o.2 h) in
       (i, o.1 ∙ ap {B = Option V} Some (sym same))
   sourced (suc t) i s v le e h = go (step p law proposals calls call at worked t le) (λ j x. sourced t j x v (omega arith))
     where
-      go : Comes p (at t) (call t) (at (suc t)) → ((j : ℕ) (x : Slip V) → slip_at (at t).table j ≡ Some x → Stands v (setups x) → Stands v (map Some proposals)) → Stands v (map Some proposals)
+      go : Comes p (at t) (call t) (at (suc t)) → ((j : ℕ) (x : Slip V) → slip_at (at t).table j ≡ Some x → Stands v (setups_of_slip x) → Stands v (map Some proposals)) → Stands v (map Some proposals)
       go (inr c) ih = ih i s (ap (λ (m : Moment V). slip_at m.table i) (sym c.1) ∙ e) h
       go (inl c) ih =
           let r = renewed t i c.0 s le c.2 e in
           pick r.old r.stood
-          (law.origin _ _ i _ r.old (at t).table v r.is_due (subst (λ (x : Slip V). Stands v (setups x)) r.made h))
+          (law.origin _ _ i _ r.old (at t).table v r.is_due (subst (λ (x : Slip V). Stands v (setups_of_slip x)) r.made h))
         where
           pick : (old : Slip V) → slip_at (at t).table i ≡ Some old → Read old (get_or c.0 i 0) (at t).table v → Stands v (map Some proposals)
           pick old stood (inl own) = ih i old stood own

@@ -89,7 +89,7 @@ module _ {V : Type 0} (p : Protocol V) (law : Lawful p) (proposals : List V) (ca
   pub step : (t : ℕ) → t < calls → Comes p (at t) (call t) (at (suc t))
   step t lt = comes p (at t) (call t) (at (suc t)) (worked.goes t lt)
 
-  opens : (no_opening p.rule.boxes (length proposals) (length worked.blank) ≡ None) × (((at 0).clock ≡ beginning) × ((at 0).table ≡ opened proposals))
+  opens : (no_opening p.rule.boxes (length proposals) (length worked.found) ≡ None) × (((at 0).clock ≡ beginning) × ((at 0).table ≡ opened proposals))
   opens = does_ok _ _ _ (at 0).clock worked.opens
 
   pub begins : (at 0).clock ≡ beginning

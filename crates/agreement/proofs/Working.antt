@@ -21,15 +21,15 @@ onward_past n f x t le = cond-false (ltb t n) (f t) x (le-ltb t n le)
 
 module _ {V : Type 0} (p : Protocol V) (proposals : List V) where
   -- an opening, with no call yet
-  pub begun : (blank : List (Slip V)) (c : Clock) (table : List (Slip V)) (call : ℕ → Call V) → Opens p proposals blank (Ok c) table → Worked p proposals 0 call (λ t. record { clock = c; table = table })
-  begun blank c table call opens = record { blank = blank; opens = opens; goes = λ t lt. absurd (omega arith) }
+  pub begun : (found : List (Slip V)) (c : Clock) (table : List (Slip V)) (call : ℕ → Call V) → Opens p proposals found (Ok c) table → Worked p proposals 0 call (λ t. record { clock = c; table = table })
+  begun found c table call opens = record { found = found; opens = opens; goes = λ t lt. absurd (omega arith) }
 
   -- one call more, on what the last one left
   pub one_more : (n : ℕ) (call : ℕ → Call V) (at : ℕ → Moment V) (x : Call V) (m : Moment V) → Worked p proposals n call at → Leaves p (at n) x m
       → Worked p proposals (suc n) (onward n call x) (onward (suc n) at m)
   one_more n call at x m w h = record {
-    blank = w.blank;
-    opens = subst (λ (a : Moment V). Opens p proposals w.blank (Ok a.clock) a.table) (sym (onward_below (suc n) at m 0 (omega arith))) w.opens;
+    found = w.found;
+    opens = subst (λ (a : Moment V). Opens p proposals w.found (Ok a.clock) a.table) (sym (onward_below (suc n) at m 0 (omega arith))) w.opens;
     goes = λ t lt. go t lt (cases_lt t n);
   }
     where

@@ -1,4 +1,4 @@
--- What inner contracts, loop invariants and the lemmas of a beat cite: a list that is being overwritten, and a beat that goes on. Assumes nothing.
+-- What inner contracts, loop invariants, the lemmas of a beat and the office's answer cite: a list that is being overwritten, and a beat that goes on. Assumes nothing.
 use Rattle.std.specs.Prelude.{◌≡◌, ℕ, ◌<◌, ◌≤◌, List, ◌++◌, length, take, drop, Option, Result, slice_index_or}
 use Rattle.quorum.specs.Boxes.{lowest}
 use Rattle.agreement.specs.declared.clocks.Clock.{Clock}

@@ -7,7 +7,7 @@ use Rattle.setup.specs.Rows.{entry}
 use Rattle.book.specs.Voting.{Guards}
 use Rattle.agreement.specs.declared.slips.Slip.{Slip}
 use Rattle.agreement.specs.Protocols.{Protocol, through}
-use Rattle.agreement.specs.Slips.{Stands, casts, held, news, opened, setups, slip_at}
+use Rattle.agreement.specs.Slips.{Stands, casts, held, news, opened, setups_of_slip, slip_at}
 
 -- the last phase
 abbrev pub last : ℕ
@@ -32,7 +32,7 @@ pub record Due {V : Type 0} (p : Protocol V) (k b i s : ℕ) : Type 0 where
 
 -- v stands in a slip that is read: the box's own, or that of a box that it heard
 abbrev pub Read : {V : Type 0} → Slip V → ℕ → List (Slip V) → V → Type 0
-Read {V} slip s table v = Stands v (setups slip) ⊎ ((j : ℕ) × (other : Slip V) × (has s j ≡ true) × (slip_at table j ≡ Some other) × Stands v (setups other))
+Read {V} slip s table v = Stands v (setups_of_slip slip) ⊎ ((j : ℕ) × (other : Slip V) × (has s j ≡ true) × (slip_at table j ≡ Some other) × Stands v (setups_of_slip other))
 
 -- two tables have the same slips at the boxes of the set
 abbrev pub Alike : {V : Type 0} → ℕ → List (Slip V) → List (Slip V) → Type 0
@@ -66,7 +66,7 @@ pub record Lawful {V : Type 0} (p : Protocol V) : Type 0 where
   pub admitted : (k b s : ℕ) → k ≤ last → b < p.beats → p.clear k b s ≡ true → p.admits k b s ≡ true
   pub whole : (k b : ℕ) → k ≤ last → b < p.beats → p.clear k b (everyone p.rule.boxes) ≡ true
   -- every setup in a new slip stood in a slip that it read, and the new slip depends on no other slip
-  pub origin : (k b i s : ℕ) (slip : Slip V) (table : List (Slip V)) (v : V) → Due p k b i s → Stands v (setups (p.next k b i slip s table)) → Read slip s table v
+  pub origin : (k b i s : ℕ) (slip : Slip V) (table : List (Slip V)) (v : V) → Due p k b i s → Stands v (setups_of_slip (p.next k b i slip s table)) → Read slip s table v
   pub alone : (k b i s : ℕ) (slip : Slip V) (t u : List (Slip V)) → Due p k b i s → Alike s t u → p.next k b i slip s t ≡ p.next k b i slip s u
   -- held becomes news where news is there, and else keeps
   pub follows : (k b i s : ℕ) (slip : Slip V) (table : List (Slip V)) → Due p k b i s → (p.next k b i slip s table).held ≡ option_or (p.next k b i slip s table).news slip.held

@@ -32,8 +32,8 @@ Leaves p m (read i answer) n = Reads p m.table i answer × (n ≡ m)
 
 -- A run is opened on a table that holds anything, and worked by `calls` calls, each on what the one before left.
 pub record Worked {V : Type 0} (p : Protocol V) (proposals : List V) (calls : ℕ) (call : ℕ → Call V) (at : ℕ → Moment V) : Type 0 where
-  pub blank : List (Slip V)
-  pub opens : Opens p proposals blank (Ok (at 0).clock) (at 0).table
+  pub found : List (Slip V)
+  pub opens : Opens p proposals found (Ok (at 0).clock) (at 0).table
   pub goes : (t : ℕ) → t < calls → Leaves p (at t) (call t) (at (suc t))
 
 -- box i holds v

@@ -21,8 +21,8 @@ abbrev pub opened : {V : Type 0} → List V → List (Slip V)
 opened proposals = map opening proposals
 
 -- what a slip has, field by field: a setup or none
-abbrev pub setups : {V : Type 0} → Slip V → List (Option V)
-setups s = Some s.own ∷ s.pick ∷ s.say ∷ s.cast ∷ s.news ∷ s.held ∷ option_map (λ d. d.1) s.dated ∷ []
+abbrev pub setups_of_slip : {V : Type 0} → Slip V → List (Option V)
+setups_of_slip s = Some s.own ∷ s.pick ∷ s.say ∷ s.cast ∷ s.news ∷ s.held ∷ option_map (λ d. d.1) s.dated ∷ []
 
 -- v stands somewhere in the row
 abbrev pub Stands : {V : Type 0} → V → List (Option V) → Type 0

@@ -16,7 +16,7 @@ pub struct Clock {
 
 impl Clock {
     // Beat 0 of phase 0.
-    pub fn beginning() -> Clock
+    pub(crate) fn beginning() -> Clock
         ensures { result ≡ beginning }
     {
         Clock { phase: 0, beat: 0 }

@@ -42,12 +42,11 @@ impl<V: Copy> Slip<V> {
     pub fn turned(self, cast: Option<V>, news: Option<V>) -> Slip<V>
         ensures { result ≡ turned cast news self }
     {
-        Slip {
-            cast,
-            news,
-            held: news.or(self.held),
-            ..self
-        }
+        let mut slip = self;
+        slip.cast = cast;
+        slip.news = news;
+        slip.held = news.or(self.held);
+        slip
     }
 
     // The slip without cast and news, every other field keeping.

@@ -8,7 +8,7 @@ use setup::having::boxes_with;
 use setup::orders::Setup;
 use setup::search::Optional;
 
-// The entries of as many boxes at most as a set has.
+// The entries of as many boxes at most as a set can have, 32.
 #[derive(Drop)]
 pub(crate) struct Row<'a, V> {
     entries: &'a [Option<V>],

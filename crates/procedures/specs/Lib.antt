@@ -1,5 +1,4 @@
 pub mod Fast
-pub mod Finding
 pub mod Latest
 pub mod Licence
 pub mod Observing

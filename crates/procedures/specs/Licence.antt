@@ -19,8 +19,8 @@ abbrev pub standard : ℕ → Family
 standard n = anchored 0 (majority n)
 
 -- the rule that the code makes, whichever box it is anchored on
-abbrev pub family_of : Anchored Majority → Family
-family_of x = anchored x.anchor (majority x.rule.roster.boxes)
+abbrev pub standard_family : Anchored Majority → Family
+standard_family x = anchored x.anchor (majority x.rule.roster.boxes)
 
 -- the procedure of the standard licence
 abbrev pub licensed : {V : Type 0} → (V → V → Bool) → ℕ → Protocol V

@@ -44,22 +44,20 @@ fn pick<V: Setup, R: Rule>(rule: &R, slip: &Slip<V>, heard: BoxSet, table: &[Sli
     } else {
         None
     };
-    Slip {
-        own,
-        pick,
-        ..slip.quiet()
-    }
+    let mut next = slip.quiet();
+    next.own = own;
+    next.pick = pick;
+    next
 }
 
 // Beat 1: it is ready to vote for this setup, if there is one, and that is its dated vote then.
 fn ready<V: Setup>(phase: u16, slip: &Slip<V>, setup: Option<V>) -> Slip<V>
     ensures { result ≡ readied phase setup slip.now }
 {
-    Slip {
-        say: setup,
-        dated: setup.map(|v| (phase, v)).or(slip.dated),
-        ..slip.quiet()
-    }
+    let mut next = slip.quiet();
+    next.say = setup;
+    next.dated = setup.map(|v| (phase, v)).or(slip.dated);
+    next
 }
 
 // Beat 2: it casts what it was ready to vote for, and what a quorum said is news.
@@ -71,7 +69,7 @@ fn vote<V: Setup, R: Rule>(rule: &R, slip: &Slip<V>, heard: BoxSet, table: &[Sli
 
 // Beat by beat; in beat 1 it is ready to vote for what a quorum picked.
 #[inline(always)]
-fn turn<V: Setup, R: Rule>(
+fn next_slip<V: Setup, R: Rule>(
     rule: &R,
     phase: u16,
     beat: u8,
@@ -124,6 +122,6 @@ impl<V: Setup, R: Rule> Procedure<V> for Latest<R> {
         ensures value { result ≡ next (R.Rule.family self.now.rule) V.Setup.before phase beat heard table.now slip.now }
         ensures published { Follows V.Setup.before (R.Rule.family self.now.rule) phase beat slip.now heard table.now result }
     {
-        turn(&self.rule, phase, beat, slip, heard, table)
+        next_slip(&self.rule, phase, beat, slip, heard, table)
     }
 }

@@ -4,7 +4,7 @@ ghost use Rattle.quorum.specs.Making.{no_roster};
 ghost use Rattle.quorum.specs.Refusals.{Answers};
 ghost use Rattle.agreement.specs.Calls.{clocked};
 ghost use Rattle.agreement.specs.Promise.{Promise};
-ghost use Rattle.procedures.specs.Licence.{OpensLicence, family_of, licensed, standard};
+ghost use Rattle.procedures.specs.Licence.{OpensLicence, licensed, standard, standard_family};
 
 use crate::latest::Latest;
 use agreement::faults::RunFault;
@@ -21,7 +21,7 @@ pub type Licence<V> = Run<V, Latest<StandardRule>>;
 
 // The rule of the standard licence.
 fn standard_rule(boxes: usize) -> Result<StandardRule, RuleFault>
-    ensures { Answers (no_roster boxes) (λ x. family_of x ≡ standard boxes) result }
+    ensures { Answers (no_roster boxes) (λ x. standard_family x ≡ standard boxes) result }
 {
     Anchored::new(Majority::new(boxes)?, 0)
 }
@@ -33,7 +33,7 @@ pub fn open<V: Setup>(
     table: &mut [Slip<V>],
 ) -> Result<Licence<V>, RunFault>
     ensures opens { OpensLicence V.Setup.before boxes proposals.now table.old (clocked result) table.new }
-    ensures runs { IfOk result (λ run. family_of run.procedure.rule ≡ standard boxes) }
+    ensures runs { IfOk result (λ run. standard_family run.procedure.rule ≡ standard boxes) }
     ensures promise { IfOk result (λ run. Promise V.Setup.before (licensed V.Setup.before boxes)) }
 {
     let rule = standard_rule(boxes)?;

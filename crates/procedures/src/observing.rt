@@ -31,11 +31,12 @@ impl<R: Rule> Observing<R> {
 fn ready<V: Setup>(slip: &Slip<V>, heard: BoxSet, table: &[Slip<V>]) -> Slip<V>
     ensures { result ≡ readied V.Setup.before heard (received own table.now heard) slip.now }
 {
-    Slip {
-        own: smallest(&Own, table, heard).unwrap_or(slip.own),
-        say: unanimous(&Own, table, heard),
-        ..slip.quiet()
-    }
+    let own = smallest(&Own, table, heard).unwrap_or(slip.own);
+    let say = unanimous(&Own, table, heard);
+    let mut next = slip.quiet();
+    next.own = own;
+    next.say = say;
+    next
 }
 
 // Beat 1: it casts what it was ready to vote for, what all said is news, and it stands for what was said.
@@ -43,17 +44,17 @@ fn ready<V: Setup>(slip: &Slip<V>, heard: BoxSet, table: &[Slip<V>]) -> Slip<V>
 fn observe<V: Setup>(slip: &Slip<V>, heard: BoxSet, table: &[Slip<V>]) -> Slip<V>
     ensures { result ≡ observed V.Setup.before heard (received say table.now heard) (received own table.now heard) slip.now }
 {
-    Slip {
-        own: smallest(&Say, table, heard)
-            .or_else(|| smallest(&Own, table, heard))
-            .unwrap_or(slip.own),
-        ..slip.turned(slip.say, unanimous(&Say, table, heard))
-    }
+    let own = smallest(&Say, table, heard)
+        .or_else(|| smallest(&Own, table, heard))
+        .unwrap_or(slip.own);
+    let mut next = slip.turned(slip.say, unanimous(&Say, table, heard));
+    next.own = own;
+    next
 }
 
 // Beat by beat.
 #[inline(always)]
-fn turn<V: Setup>(beat: u8, slip: &Slip<V>, heard: BoxSet, table: &[Slip<V>]) -> Slip<V>
+fn next_slip<V: Setup>(beat: u8, slip: &Slip<V>, heard: BoxSet, table: &[Slip<V>]) -> Slip<V>
     ensures { result ≡ next V.Setup.before beat heard table.now slip.now }
 {
     match beat {
@@ -98,6 +99,6 @@ impl<V: Setup, R: Rule> Procedure<V> for Observing<R> {
         ensures value { result ≡ next V.Setup.before beat heard table.now slip.now }
         ensures published { Follows V.Setup.before (R.Rule.family self.now.rule) beat slip.now heard table.now result }
     {
-        turn(beat, slip, heard, table)
+        next_slip(beat, slip, heard, table)
     }
 }

@@ -2,7 +2,6 @@
 ghost use Rattle.std.specs.Prelude.{◌≡◌, map, if◌then◌else◌, None};
 ghost use Rattle.quorum.specs.Sets.{has};
 ghost use Rattle.setup.specs.Rows.{IsFirst, among, entry};
-ghost use Rattle.procedures.specs.Finding.{SentByOne};
 ghost use Rattle.procedures.specs.Received.{IsBacked, IsMostOften, IsUnanimous, backed as backed_by, backer as backer_of, most_often as most_often_of, smallest as smallest_of, unanimous as unanimous_in};
 
 use quorum::members::each;
@@ -77,19 +76,15 @@ pub fn backed<R: Rule, T, V: Setup, F: Field<T, V>>(
     read_at(field, row, backer(rule, field, row, heard, others)?)
 }
 
-// What the lowest box sent that was heard.
-fn lowest_sent<T, V: Setup, F: Field<T, V>>(field: &F, row: &[T], heard: BoxSet) -> Option<V>
-    ensures { SentByOne heard (map (F.Field.reads field.now) row.now) result }
-{
-    read_at(field, row, each(heard).next()?)
-}
-
 // The setup that all the boxes sent that were heard: what the lowest of them sent, if the others sent it too.
+#[tactic(auto, using(crate::proofs::Finding::nobody_heard, crate::proofs::Finding::nothing_sent, crate::proofs::Finding::others_asked, crate::proofs::Finding::unanimous_law))]
 pub fn unanimous<T, V: Setup, F: Field<T, V>>(field: &F, row: &[T], heard: BoxSet) -> Option<V>
     ensures value { result ≡ unanimous_in V.Setup.before heard (among (map (F.Field.reads field.now) row.now) heard) }
     ensures law { IsUnanimous V.Setup.before heard (among (map (F.Field.reads field.now) row.now) heard) result }
 {
-    lowest_sent(field, row, heard).filter(|v| all_have(field, row, heard, *v))
+    let mut boxes = each(heard);
+    let v = read_at(field, row, boxes.next()?)?;
+    all_have(field, row, boxes.left(), v).then_some(v)
 }
 
 // The setup that most of them sent, and of several such the smallest. Each setup is counted once, whichever of its senders comes first.

@@ -3,15 +3,15 @@ use Rattle.std.specs.Prelude.{ℕ, ◌+◌, ◌*◌, ◌/◌, Bool, ◌&&◌, �
 use Rattle.quorum.specs.Rules.{Family}
 use Rattle.quorum.specs.Sets.{has, count, everyone, within}
 
--- k boxes or more
+-- no stranger, and k boxes or more
 abbrev pub at_least : ℕ → ℕ → ℕ → Bool
 at_least n k s = within n s && nat_le k (count s)
 
--- twice the count exceeds n
+-- no stranger, and twice the count exceeds n
 abbrev pub majority : ℕ → Family
 majority n = record { boxes = n; quorum = λ s. within n s && nat_lt n (2 * count s) }
 
--- e boxes or more
+-- no stranger, and e boxes or more
 abbrev pub sizes : ℕ → ℕ → Family
 sizes n e = record { boxes = n; quorum = at_least n e }
 

@@ -13,8 +13,8 @@ pub record Fit (n e t : ℕ) : Type 0 where
   pub less : e ≤ t
   pub within : t ≤ n
 
-pub fits : (n e t : ℕ) → fit n e t ≡ true → Fit n e t
-fits n e t h =
+pub fit_parts : (n e t : ℕ) → fit n e t ≡ true → Fit n e t
+fit_parts n e t h =
     let outer = and_parts (nat_lt (2 * n) (2 * e + t)) (nat_le e t && nat_le t n) h in
     let inner = and_parts (nat_le e t) (nat_le t n) outer.1 in
     record { enough = ltb-true (2 * n) (2 * e + t) outer.0; less = leb-true e t inner.0; within = leb-true t n inner.1 }
@@ -24,12 +24,12 @@ or_more n k le = record { more = λ i j lt h. le-leb k j (omega (arith, leb-true
 
 pub sizes_lawful : (n e t : ℕ) → Roster n → fit n e t ≡ true → Lawful (sizes n e)
 sizes_lawful n e t sized h =
-    let f = fits n e t h in
+    let f = fit_parts n e t h in
     counted_lawful n (leb e) sized (or_more n e (omega arith)) (λ k g. omega (arith, leb-true e k g))
 
 pub sizes_clear : (n e t : ℕ) → fit n e t ≡ true → ClearLawful (sizes n e) (at_least n t)
 sizes_clear n e t h =
-    let f = fits n e t h in
+    let f = fit_parts n e t h in
     counted_clear n (leb e) (leb t) (or_more n t f.within)
     (λ i j k a b c. omega (arith, leb-true e i a, leb-true e j b, leb-true t k c))
     (λ k c. le-leb e k (omega (arith, leb-true t k c)))

@@ -7,7 +7,7 @@ use Rattle.quorum.specs.declared.refusals.RuleFault.TheVariants as fault
 abbrev pub no_roster : ℕ → Option RuleFault
 no_roster n = cond (nat_le 1 n && nat_le n 32) None (Some fault.Roster)
 
--- two quorums of e boxes and a clear set of t share one of n boxes, and a clear set is not below a quorum
+-- two quorums of e boxes and a clear set of t share one of n boxes, and t is not below e, nor above n
 abbrev pub fit : ℕ → ℕ → ℕ → Bool
 fit n e t = nat_lt (2 * n) (2 * e + t) && (nat_le e t && nat_le t n)
 

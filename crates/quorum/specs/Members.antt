@@ -1,14 +1,14 @@
 -- The boxes of a set, bit by bit. Assumes nothing.
-use Rattle.std.specs.Prelude.{◌≡◌, ℕ, zero, suc, ◌+◌, ◌-◌, ◌*◌, ◌/◌, ◌%◌, ◌^◌, ◌<◌, ◌≤◌, true, false, not, ◌&&◌, ◌||◌, ◌⊎◌, Decides, ◌==◌, bit_and, bit_or, min, nat_eq, nat_lt, refl}
+use Rattle.std.specs.Prelude.{◌≡◌, ℕ, zero, suc, ◌+◌, ◌-◌, ◌*◌, ◌/◌, ◌%◌, ◌^◌, ◌<◌, ◌≤◌, true, false, not, ◌&&◌, ◌||◌, ◌⊎◌, Decides, ◌==◌, bit_and, bit_or, min, nat_eq, nat_le, nat_lt, refl}
 use Rattle.std.specs.Int.{bit_at, bit_not, w32}
-use Rattle.std.proofs.Common.{inl, inr, sym, ap, ◌∙◌, lt_of_lt_of_le, mod-lt, le-add_right, one-mul, lt_of_le_of_lt, div-lt_iff_lt-mul, le-div_iff_mul-le, pow-suc, one-add, arith, lit<, pow_pos, pow_mono, shr-shr}
-use Rattle.std.proofs.Math.Nat.{div-eq_of_lt}
+use Rattle.std.proofs.Common.{inl, inr, sym, ap, ◌∙◌, lt_of_lt_of_le, mod-lt, le-add_right, one-mul, lt_of_le_of_lt, div-lt_iff_lt-mul, pow-suc, one-add, arith, lit<, pow_pos, pow_mono, shr-shr}
+use Rattle.std.proofs.Math.Nat.{div-eq_of_lt, min-eq_left, min-eq_right}
 use Rattle.std.proofs.Math.Arith.{lt-one}
 use Rattle.std.proofs.lemmas.Nat.{or_shr, or_mod, shr_le}
 use Rattle.std.proofs.lemmas.Nat.Bits.{bit_at-lt, bit_at_and, bit_at_not}
 use Rattle.std.proofs.Math.Pow.{ones_lt}
-use Rattle.std.proofs.lemmas.Bool.{both_ways, cases_lt, eq-eqb, le-ltb, lt-ltb, ltb-true, ne_eqb, eqb-false}
-use Rattle.std.proofs.lemmas.Bool.Decides.{Decides-at, nat_tests}
+use Rattle.std.proofs.lemmas.Bool.{both_ways, cases_lt, eq-eqb, eqb-false, le-leb, le-ltb, lt-leb, lt-ltb, ltb-true}
+use Rattle.std.proofs.lemmas.Bool.Decides.{nat_tests}
 use Rattle.quorum.specs.Sets.{everyone, has, within, AllBelow, NoneAbove}
 
 -- a set below 2 ^ n has no box at n or above
@@ -36,29 +36,22 @@ below_from_none k n s h none =
     let low : s < 1 * 2 ^ n = (div-lt_iff_lt-mul (pow_pos n)).0 (omega arith) in
     omega (arith, one-mul (2 ^ n))
 
--- the test that the code makes: nothing is left behind the first n boxes
-pub within_shr : (n s : ℕ) → (s / 2 ^ n == 0) ≡ within n s
-within_shr n s = go (cases_lt s (2 ^ n))
+-- the test that the code makes: a set of k boxes at most is no greater than that of all below n
+pub no_greater : (k n s : ℕ) → s < 2 ^ k → nat_le s (everyone (min n k)) ≡ within n s
+no_greater k n s h = go (cases_lt k n) (cases_lt s (2 ^ n))
   where
-    go : ((s < 2 ^ n) ⊎ (2 ^ n ≤ s)) → (s / 2 ^ n == 0) ≡ within n s
-    go (inl h) = eq-eqb _ 0 (div-eq_of_lt h) ∙ sym (lt-ltb s (2 ^ n) h)
-    go (inr h) =
-        let some : 0 < s / 2 ^ n = (le-div_iff_mul-le (pow_pos n)).1 (omega (arith, one-mul (2 ^ n))) in
-        ne_eqb _ 0 (λ e. omega arith) ∙ sym (le-ltb s (2 ^ n) h)
+    some : 0 < 2 ^ n
+    some = pow_pos n
+
+    go : ((k < n) ⊎ (n ≤ k)) → ((s < 2 ^ n) ⊎ (2 ^ n ≤ s)) → nat_le s (everyone (min n k)) ≡ within n s
+    go (inr le) (inl lt) = le-leb s _ (omega (arith, ap everyone (min-eq_left le), some)) ∙ sym (lt-ltb s (2 ^ n) lt)
+    go (inr le) (inr ge) = lt-leb s _ (omega (arith, ap everyone (min-eq_left le), some)) ∙ sym (le-ltb s (2 ^ n) ge)
+    go (inl gt) (inl lt) = le-leb s _ (omega (arith, ap everyone (min-eq_right {n = k} {m = n} (omega arith)), h)) ∙ sym (lt-ltb s (2 ^ n) lt)
+    go (inl gt) (inr ge) = absurd (omega (arith, h, ge, pow_mono {i = k} {j = n} (omega arith)))
 
 -- `within` says what its words say
-within_decides : (k n s : ℕ) → s < 2 ^ k → Decides (within n s) (NoneAbove n s)
+pub within_decides : (k n s : ℕ) → s < 2 ^ k → Decides (within n s) (NoneAbove n s)
 within_decides k n s h = (λ e i le. has_past n s i (ltb-true s (2 ^ n) e) le, λ none. lt-ltb s (2 ^ n) (below_from_none k n s h none))
-
--- what a set of k boxes at most has at n and above
-pub record Strangers (n s r : ℕ) : Type 0 where
-  pub value : r ≡ s / 2 ^ n
-  pub none : nat_eq r 0 ≡ within n s
-  pub boxes : Decides (r == 0) (NoneAbove n s)
-
-pub strangers : (k n s r : ℕ) → s < 2 ^ k → r ≡ s / 2 ^ n → Strangers n s r
-strangers k n s r h e =
-    let same = ap (λ (q : ℕ). nat_eq q 0) e ∙ within_shr n s in record { value = e; none = same; boxes = Decides-at _ _ same (within_decides k n s h) }
 
 or_digit : (d e : ℕ) → d < 2 → e < 2 → (bit_or d e == 1) ≡ (d == 1 || e == 1)
 or_digit zero zero g h = refl

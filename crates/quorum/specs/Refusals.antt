@@ -1,4 +1,4 @@
--- Each refusal's number, each layer's word, and what the faults of a rule report. Assumes nothing.
+-- Each refusal's number, each layer's word, what the faults of a rule report, and what a call that may decline answers. Assumes nothing.
 use Rattle.std.specs.Prelude.{◌≡◌, ℕ, Bool, cond, List, Some, None, Ok, Err, codes, Option, Result}
 use Rattle.quorum.specs.declared.refusals.Fault.{Fault}
 use Rattle.quorum.specs.declared.refusals.Layer.{Layer}

@@ -18,6 +18,15 @@ pub fn each(set: BoxSet) -> Members
     Members { left: set }
 }
 
+impl Members {
+    // The boxes that are left, as a set.
+    pub fn left(&self) -> BoxSet
+        ensures { result ≡ self.now.left }
+    {
+        self.left
+    }
+}
+
 impl Iterator for Members {
     type Item = usize;
 

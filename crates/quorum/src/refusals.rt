@@ -4,7 +4,7 @@ ghost use Rattle.quorum.specs.Refusals.{number, of_rule, word};
 
 use std::fmt;
 
-// Each reason to decline, with its number, in the order in which calls check for them.
+// Each reason to decline, with its number. Within a call they are checked for in this order; a text's own come before those of what it asks for.
 #[derive(Clone, Copy, Debug, PartialEq)]
 pub enum Refusal {
     Roster = 1,
@@ -42,8 +42,8 @@ pub enum Layer {
 }
 
 impl Layer {
-    // The word by which a report names the layer; a function too, for a text without a formatter.
-    pub fn word(self) -> &'static str
+    // The word by which a report names the layer.
+    fn word(self) -> &'static str
         ensures { result.now ≡ word self }
     {
         match self {

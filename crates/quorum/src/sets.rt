@@ -1,5 +1,5 @@
 // Sets of boxes: a number whose bit i stands for box i.
-ghost use Rattle.std.specs.Prelude.{◌≡◌, ◌/◌, ◌^◌, ◌≤◌, min, Decides, ◌==◌, if◌then◌else◌, nat_lt};
+ghost use Rattle.std.specs.Prelude.{◌≡◌, ◌≤◌, min, Decides, if◌then◌else◌, nat_lt};
 ghost use Rattle.quorum.specs.Sets.{has, added as added_to, count, tally, everyone, within, AllBelow, NoneAbove};
 
 pub type BoxSet = u32;
@@ -25,25 +25,8 @@ pub fn size(set: BoxSet) -> usize
     set.count_ones() as usize
 }
 
-// What the set has at box `n` and above, moved down to box 0.
-fn strangers(set: BoxSet, n: usize) -> BoxSet
-    ensures value { result ≡ set / 2 ^ n }
-    ensures none { (result == 0) ≡ within n set }
-    ensures boxes { Decides (result == 0) (NoneAbove n set) }
-{
-    if n >= MAX_BOXES { 0 } else { set >> n }
-}
-
-// Whether the set has no box at `n` or above.
-pub fn fits(set: BoxSet, n: usize) -> bool
-    ensures value { result ≡ within n set }
-    ensures boxes { Decides result (NoneAbove n set) }
-{
-    strangers(set, n) == 0
-}
-
 // The set of all boxes below `n`.
-fn lowest(n: usize) -> BoxSet
+fn below(n: usize) -> BoxSet
     requires { n ≤ 32 }
     ensures value { result ≡ everyone n }
     ensures boxes { AllBelow n result }
@@ -60,7 +43,15 @@ pub fn all_below(n: usize) -> BoxSet
     ensures value { result ≡ everyone (min n 32) }
     ensures boxes { AllBelow (min n 32) result }
 {
-    lowest(n.min(MAX_BOXES))
+    below(n.min(MAX_BOXES))
+}
+
+// Whether the set has no box at `n` or above: then it is no greater, as a number, than that of all boxes below.
+pub fn fits(set: BoxSet, n: usize) -> bool
+    ensures value { result ≡ within n set }
+    ensures boxes { Decides result (NoneAbove n set) }
+{
+    set <= all_below(n)
 }
 
 // The set with box `i` added; a set has no box past 31.

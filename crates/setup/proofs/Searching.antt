@@ -51,6 +51,23 @@ module _ {V : Type 0} {before : V → V → Bool} (o : Ordered before) where
       go (inl e) (inl d) = absurd (both_ways (before a b) h (o.transitive a c b e d))
       go (inl e) (inr d) = absurd (both_ways (before a b) h (subst (λ (x : V). before a x ≡ true) (sym (o.total b c g d)) e))
 
+  -- of three the first two may be compared before the third is looked at: b comes before a, and b does not
+  pub earlier_moves : (a b : V) → before b a ≡ true → (rest : Option V) → sooner before (Some b) rest ≡ sooner before (Some a) (sooner before (Some b) rest)
+  earlier_moves a b h None = sym (ap (λ (t : Bool). Some (cond t b a)) h)
+  earlier_moves a b h (Some c) = go (before c b) refl
+    where
+      go : (t : Bool) → before c b ≡ t → Some (cond t c b) ≡ sooner before (Some a) (Some (cond t c b))
+      go true g = sym (ap (λ (t : Bool). Some (cond t c a)) (o.transitive c b a g h))
+      go false g = sym (ap (λ (t : Bool). Some (cond t b a)) h)
+
+  pub later_moves : (a b : V) → before b a ≡ false → (rest : Option V) → sooner before (Some a) rest ≡ sooner before (Some a) (sooner before (Some b) rest)
+  later_moves a b h None = sym (ap (λ (t : Bool). Some (cond t b a)) h)
+  later_moves a b h (Some c) = go (before c b) refl
+    where
+      go : (t : Bool) → before c b ≡ t → Some (cond (before c a) c a) ≡ sooner before (Some a) (Some (cond t c b))
+      go true g = refl
+      go false g = ap (λ (t : Bool). Some (cond t c a)) (chain c b a g h) ∙ sym (ap (λ (t : Bool). Some (cond t b a)) h)
+
   -- the first of a row: it stands there, and nothing that stands there comes before it
   abbrev pub Least : List (Option V) → Option V → Type 0
   Least row None = (i : ℕ) → entry row i ≡ None

@@ -1,6 +1,7 @@
 // Which boxes of a set have a setup.
-ghost use Rattle.std.specs.Prelude.{◌≡◌, ◌==◌, map};
-ghost use Rattle.setup.specs.Rows.{among, boxes_with as boxes_that_have, is as is_of, same as same_of};
+ghost use Rattle.std.specs.Prelude.{◌≡◌, ℕ, ◌&&◌, ◌==◌, Decides, map, true};
+ghost use Rattle.quorum.specs.Sets.{has};
+ghost use Rattle.setup.specs.Rows.{among, entry, boxes_with as boxes_that_have, is as is_of, same as same_of};
 
 use crate::orders::Setup;
 use crate::search::{Field, read_at};
@@ -21,10 +22,11 @@ pub fn is<V: Setup>(v: V, entry: Option<V>) -> bool
     entry.is_some_and(|w| same(v, w))
 }
 
-// The boxes of the set that have the setup `v`, as `field` reads it from their entries in the row.
+// The boxes of the set that have the setup `v`, as `field` reads it from their entries in the row. `boxes` says so box by box.
 #[tactic(auto, using(crate::proofs::Walked::gathers_none))]
 pub fn boxes_with<T, V: Setup, F: Field<T, V>>(field: &F, row: &[T], set: BoxSet, v: V) -> BoxSet
-    ensures { result ≡ boxes_that_have V.Setup.before v (among (map (F.Field.reads field.now) row.now) set) }
+    ensures value { result ≡ boxes_that_have V.Setup.before v (among (map (F.Field.reads field.now) row.now) set) }
+    ensures boxes { (i : ℕ) → has result i ≡ (has set i && is_of V.Setup.before v (entry (map (F.Field.reads field.now) row.now) i)) }
 {
     let mut found = 0;
     for i in each(set) {
@@ -37,7 +39,8 @@ pub fn boxes_with<T, V: Setup, F: Field<T, V>>(field: &F, row: &[T], set: BoxSet
 
 // Whether all boxes of the set have the setup `v`. It stops at the first that has not.
 pub fn all_have<T, V: Setup, F: Field<T, V>>(field: &F, row: &[T], set: BoxSet, v: V) -> bool
-    ensures { result ≡ (boxes_that_have V.Setup.before v (among (map (F.Field.reads field.now) row.now) set) == set) }
+    ensures value { result ≡ (boxes_that_have V.Setup.before v (among (map (F.Field.reads field.now) row.now) set) == set) }
+    ensures boxes { Decides result ((i : ℕ) → has set i ≡ true → is_of V.Setup.before v (entry (map (F.Field.reads field.now) row.now) i) ≡ true) }
 {
     for i in each(set) {
         if !is(v, read_at(field, row, i)) {

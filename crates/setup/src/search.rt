@@ -3,7 +3,7 @@ ghost use Rattle.std.specs.Prelude.{◌≡◌, map, Some, Option};
 ghost use Rattle.setup.specs.Rows.{among, entry, first as first_of, sooner as sooner_of, IsFirst};
 
 use crate::orders::Setup;
-use quorum::members::each;
+use quorum::members::{Members, each};
 use quorum::sets::BoxSet;
 
 // What a search reads of each entry of a row: a setup or none. A trait and not a closure: a call that takes a closure has a `requires`, and no public call has one.
@@ -57,15 +57,31 @@ pub fn sooner<V: Setup>(a: Option<V>, b: Option<V>) -> Option<V>
     }
 }
 
-// The first setup among the boxes of the set, as `field` reads it from their entries in the row.
-#[tactic(auto, using(crate::proofs::Walked::turn_takes, crate::proofs::Walked::search_ends))]
+// The first of a setup and of what the boxes have that are left.
+fn first_of_these<T, V: Setup, F: Field<T, V>>(field: &F, row: &[T], left: Members, v: V) -> V
+    ensures { Some result ≡ sooner_of V.Setup.before (Some v) (first_of V.Setup.before (among (map (F.Field.reads field.now) row.now) left.left)) }
+{
+    let mut best = v;
+    for i in left {
+        if let Some(w) = read_at(field, row, i) {
+            if w.comes_before(&best) {
+                best = w;
+            }
+        }
+    }
+    best
+}
+
+// The first setup among the boxes of the set, as `field` reads it from their entries in the row: some box has one, and of its setup and those of the boxes after it the first is taken.
 pub fn first<T, V: Setup, F: Field<T, V>>(field: &F, row: &[T], set: BoxSet) -> Option<V>
     ensures value { result ≡ first_of V.Setup.before (among (map (F.Field.reads field.now) row.now) set) }
     ensures law { IsFirst V.Setup.before (map (F.Field.reads field.now) row.now) set result }
 {
-    let mut best = None;
-    for i in each(set) {
-        best = sooner(best, read_at(field, row, i));
+    let mut boxes = each(set);
+    while let Some(i) = boxes.next() {
+        if let Some(v) = read_at(field, row, i) {
+            return Some(first_of_these(field, row, boxes, v));
+        }
     }
-    best
+    None
 }

@@ -18,7 +18,7 @@ use Rattle.book.specs.Voting.{Backed, Guards, Loyal, Unanimous}
 use Rattle.agreement.specs.declared.slips.Slip.{Slip}
 use Rattle.agreement.specs.Laws.{Alike, AllHold, Course, Lawful, OneClear, Read, ended}
 use Rattle.agreement.specs.Protocols.{Protocol, beaten}
-use Rattle.agreement.specs.Slips.{Stands, casts, news, setups, turned}
+use Rattle.agreement.specs.Slips.{Stands, casts, news, setups_of_slip, turned}
 use Rattle.agreement.proofs.Entries.{at_dated, at_own, at_pick, at_say, field_from}
 use Rattle.agreement.proofs.Every.{EachHeard, Every, all_hold, any_slips, carried, each_clear, every_beaten, every_clear, every_sent, from_then, guards_met, new_at, new_from, start, start_length}
 use Rattle.procedures.specs.Fast.{AtMostOne, fast, favourite, polled}
@@ -201,13 +201,13 @@ module _ {V : Type 0} {before : V → V → Bool} (o : Ordered before) (f : Fami
   -- ---- one slip
 
   -- every setup of a new slip stood in a slip that it read
-  polled_reads : (slip : Slip V) (s : ℕ) (table : List (Slip V)) (v : V) → Stands v (setups (polled f before clear s (received own table s) slip)) → Read slip s table v
+  polled_reads : (slip : Slip V) (s : ℕ) (table : List (Slip V)) (v : V) → Stands v (setups_of_slip (polled f before clear s (received own table s) slip)) → Read slip s table v
   polled_reads slip s table = new_reads slip s table (polled f before clear s owns slip) (stood_for (clear s)) (read at_pick) (read at_say) (read at_own) (from_quorum 0) refl (read at_dated)
     where
       owns : List (Option V)
       owns = received own table s
 
-      read : (i : ℕ) → So (Reads slip s table) (entry (setups slip) i)
+      read : (i : ℕ) → So (Reads slip s table) (entry (setups_of_slip slip) i)
       read = had slip s table
 
       from_quorum : (others : ℕ) → So (Reads slip s table) (backed f before others owns)

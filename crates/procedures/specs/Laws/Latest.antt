@@ -9,7 +9,7 @@ use Rattle.setup.specs.Rows.{first}
 use Rattle.agreement.specs.declared.slips.Slip.{Slip}
 use Rattle.agreement.specs.Laws.{Alike, AllHold, Lawful, OneClear, Read}
 use Rattle.agreement.specs.Protocols.{Protocol, beaten, within_phase}
-use Rattle.agreement.specs.Slips.{Stands, setups, turned}
+use Rattle.agreement.specs.Slips.{Stands, setups_of_slip, turned}
 use Rattle.agreement.proofs.Entries.{at_pick}
 use Rattle.agreement.proofs.Every.{EachHeard, Every, all_hold, any_slips, each_clear, every_clear, every_sent, start, start_length}
 use Rattle.agreement.proofs.Forming.{formed_stands, one_formed}
@@ -48,7 +48,7 @@ module _ {V : Type 0} {before : V → V → Bool} (o : Ordered before) (f : Fami
 
   module _ (k s : ℕ) (slip : Slip V) (table : List (Slip V)) where
     -- every setup of a new slip stood in a slip that it read
-    next_reads : (b : ℕ) (v : V) → Stands v (setups (next f before k b s table slip)) → Read slip s table v
+    next_reads : (b : ℕ) (v : V) → Stands v (setups_of_slip (next f before k b s table slip)) → Read slip s table v
     next_reads zero = picking_reads o f k s slip table _ (taken_read slip s table o)
     next_reads (suc zero) =
         readied_reads o f k s slip table (ready k s table) (found_read slip s table pick at_pick (λ x. refl) (ready k s table) (backed_stands o f 0 (received pick table s)))

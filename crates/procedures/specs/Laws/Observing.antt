@@ -10,7 +10,7 @@ use Rattle.book.specs.Voting.{Backed, Guards, Loyal, Unanimous}
 use Rattle.agreement.specs.declared.slips.Slip.{Slip}
 use Rattle.agreement.specs.Laws.{Admitted, Alike, AllAdmitted, AllHold, Course, Lawful, OneClear, Read, ended}
 use Rattle.agreement.specs.Protocols.{Protocol, beaten}
-use Rattle.agreement.specs.Slips.{Stands, casts, news, setups, turned}
+use Rattle.agreement.specs.Slips.{Stands, casts, news, setups_of_slip, turned}
 use Rattle.agreement.proofs.Entries.{at_dated, at_own, at_pick, at_say, beaten_length, item_inside}
 use Rattle.agreement.proofs.Every.{Every, all_hold, any_slips, carried, every_beaten, every_clear, every_field, every_sent, every_so, from_then, guards_met, new_from, start, start_length}
 use Rattle.agreement.proofs.Forming.{Formed, formed_stands, one_formed}
@@ -181,7 +181,7 @@ module _ {V : Type 0} {before : V → V → Bool} (o : Ordered before) (f : Fami
 
   -- every setup of a new slip stood in a slip that it read
   module _ (slip : Slip V) (s : ℕ) (table : List (Slip V)) where
-    next_reads : (b : ℕ) (v : V) → Stands v (setups (next before b s table slip)) → Read slip s table v
+    next_reads : (b : ℕ) (v : V) → Stands v (setups_of_slip (next before b s table slip)) → Read slip s table v
     next_reads zero =
         let owns = received own table s in
         let found = found_read slip s table own at_own (λ x. refl) in

@@ -7,7 +7,7 @@ use Rattle.setup.specs.Orders.{Ordered}
 use Rattle.setup.specs.Rows.{entry, first}
 use Rattle.agreement.specs.declared.slips.Slip.{Slip}
 use Rattle.agreement.specs.Laws.{Read}
-use Rattle.agreement.specs.Slips.{Stands, setups}
+use Rattle.agreement.specs.Slips.{Stands, setups_of_slip}
 use Rattle.agreement.proofs.Entries.{at_held, at_own, field_from}
 use Rattle.procedures.specs.Received.{own, received}
 use Rattle.procedures.specs.Laws.Received.{first_stands, sent}
@@ -43,21 +43,21 @@ module _ {V : Type 0} (slip : Slip V) (s : ℕ) (table : List (Slip V)) where
   Reads = Read slip s table
 
   -- what the box had is read, as is what it stood for
-  pub had : (i : ℕ) → So Reads (entry (setups slip) i)
+  pub had : (i : ℕ) → So Reads (entry (setups_of_slip slip) i)
   had i v e = inl (i, e)
 
   pub had_own : Reads slip.own
   had_own = had at_own slip.own refl
 
   -- what stands in what was received is read, where the field is one of a slip's setups
-  pub received_read : {W : Type 0} (field : Slip V → Option W) (w : W) (v : V) → ((x : Slip V) → field x ≡ Some w → Stands v (setups x)) → Stands w (received field table s) → Reads v
+  pub received_read : {W : Type 0} (field : Slip V → Option W) (w : W) (v : V) → ((x : Slip V) → field x ≡ Some w → Stands v (setups_of_slip x)) → Stands w (received field table s) → Reads v
   received_read field w v reads stood =
       let at = sent (map field table) s stood.0 w stood.1 in
       let from = field_from field table stood.0 w at.1 in
       inr (stood.0, from.0, at.0, from.1, reads from.0 from.2)
 
   -- and so is what is found there
-  pub found_read : (field : Slip V → Option V) (i : ℕ) → ((x : Slip V) → entry (setups x) i ≡ field x) → (x : Option V) → So (λ v. Stands v (received field table s)) x → So Reads x
+  pub found_read : (field : Slip V → Option V) (i : ℕ) → ((x : Slip V) → entry (setups_of_slip x) i ≡ field x) → (x : Option V) → So (λ v. Stands v (received field table s)) x → So Reads x
   found_read field i is_field x stood v e = received_read field v v (λ y has_it. (i, is_field y ∙ has_it)) (stood v e)
 
   -- so is the smallest of what those that it heard stand for, and what it comes to stand for if it takes that, where there is one
@@ -69,10 +69,10 @@ module _ {V : Type 0} (slip : Slip V) (s : ℕ) (table : List (Slip V)) where
 
   -- every setup of a new slip is read, where that of each of its fields is, and held becomes news
   pub new_reads : (new : Slip V) → Reads new.own → So Reads new.pick → So Reads new.say → So Reads new.cast → So Reads new.news → new.held ≡ option_or new.news slip.held
-      → So Reads (option_map (λ d. d.1) new.dated) → (v : V) → Stands v (setups new) → Reads v
+      → So Reads (option_map (λ d. d.1) new.dated) → (v : V) → Stands v (setups_of_slip new) → Reads v
   new_reads new own pick say cast news follows dated v stood = go stood.0 stood.1
     where
-      go : (i : ℕ) → entry (setups new) i ≡ Some v → Reads v
+      go : (i : ℕ) → entry (setups_of_slip new) i ≡ Some v → Reads v
       go zero e = subst Reads (some_is e) own
       go (suc zero) e = pick v e
       go (suc (suc zero)) e = say v e

@@ -15,7 +15,7 @@ use Rattle.book.specs.Voting.{Backed, Guards, Loyal}
 use Rattle.agreement.specs.declared.slips.Slip.{Slip}
 use Rattle.agreement.specs.Laws.{ended}
 use Rattle.agreement.specs.Protocols.{Protocol, beaten, within_phase}
-use Rattle.agreement.specs.Slips.{Stands, casts, news, opened, setups}
+use Rattle.agreement.specs.Slips.{Stands, casts, news, opened, setups_of_slip}
 use Rattle.agreement.proofs.Entries.{at_dated, at_pick, at_say, field_from, opened_from}
 use Rattle.agreement.proofs.Every.{EachHeard, Every, carried, every_beaten, every_sent, guards_met, joined, new_from, start}
 use Rattle.procedures.specs.Latest.{latest_vote, picking, readied, voted}
@@ -67,7 +67,7 @@ module _ {V : Type 0} {before : V → V → Bool} (o : Ordered before) where
 
   -- every setup of a new slip stood in a slip that it read
   module _ (f : Family) (k s : ℕ) (slip : Slip V) (table : List (Slip V)) where
-    pub picking_reads : (v : V) → Reads slip s table v → (w : V) → Stands w (setups (picking f before s (received dated table s) v slip)) → Reads slip s table w
+    pub picking_reads : (v : V) → Reads slip s table v → (w : V) → Stands w (setups_of_slip (picking f before s (received dated table s) v slip)) → Reads slip s table w
     picking_reads v read =
         new_reads slip s table (picking f before s (received dated table s) v slip) read (λ w e. subst (Reads slip s table) (cond_some (f.quorum s) _ w e).1 (unwrap_so (Reads slip s table) votes v of_votes read))
         (had slip s table at_say) (none_so (Reads slip s table)) (none_so (Reads slip s table)) refl (had slip s table at_dated)
@@ -80,7 +80,7 @@ module _ {V : Type 0} {before : V → V → Bool} (o : Ordered before) where
             map_so (Reads slip s table) (λ d. d.1) (first (dated_before before) (received dated table s))
             (λ d e. received_read slip s table dated d d.1 (λ x has_it. (at_dated, ap {B = Option V} (option_map (λ c. c.1)) has_it)) (first_stands (dates o) (received dated table s) d e))
 
-    pub readied_reads : (ready : Option V) → So (Reads slip s table) ready → (w : V) → Stands w (setups (readied k ready slip)) → Reads slip s table w
+    pub readied_reads : (ready : Option V) → So (Reads slip s table) ready → (w : V) → Stands w (setups_of_slip (readied k ready slip)) → Reads slip s table w
     readied_reads ready read =
         new_reads slip s table (readied k ready slip) (had_own slip s table) (had slip s table at_pick) read (none_so (Reads slip s table)) (none_so (Reads slip s table)) refl (votes ready read)
       where
@@ -88,7 +88,7 @@ module _ {V : Type 0} {before : V → V → Bool} (o : Ordered before) where
         votes None read = had slip s table at_dated
         votes (Some v) read = read
 
-    pub voted_reads : (w : V) → Stands w (setups (voted f before (received say table s) slip)) → Reads slip s table w
+    pub voted_reads : (w : V) → Stands w (setups_of_slip (voted f before (received say table s) slip)) → Reads slip s table w
     voted_reads =
         new_reads slip s table (voted f before (received say table s) slip) (had_own slip s table) (had slip s table at_pick) (had slip s table at_say) (had slip s table at_say)
         (found_read slip s table say at_say (λ x. refl) (backed f before 0 (received say table s)) (backed_stands o f 0 (received say table s))) refl (had slip s table at_dated)

@@ -4,12 +4,12 @@ use Rattle.quorum.specs.Making.{no_roster}
 use Rattle.quorum.proofs.Refused.{value_of}
 use Rattle.agreement.specs.Promise.{Promise}
 use Rattle.procedures.specs.Latest.{latest}
-use Rattle.procedures.specs.Licence.{family_of}
+use Rattle.procedures.specs.Licence.{standard_family}
 use Rattle.procedures.proofs.licence.open.Goals as goal
 
 pub returns-clause-promise : goal.returns-clause-promise
 returns-clause-promise g c =
     let before = g.V.Setup.before in
-    let rule = ap family_of c.new.ensures ∙ value_of (no_roster c.args.boxes) _ _ c.in_ok-rule.ensures in
+    let rule = ap standard_family c.new.ensures ∙ value_of (no_roster c.args.boxes) _ _ c.in_ok-rule.ensures in
     let kept = subst (λ f. Promise before (latest before f)) rule c.open.ensures.promise in
     IfOk-weaker c.open.result _ _ (λ run r. kept) c.open.ensures.runs
