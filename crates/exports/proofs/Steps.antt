@@ -10,7 +10,7 @@ use Rattle.agreement.specs.Protocols.{Protocol}
 use Rattle.agreement.specs.Slips.{opened}
 use Rattle.procedures.specs.Licence.{OpensOrNot}
 use Rattle.exports.specs.InTurn.{InTurn}
-use Rattle.exports.specs.Worked.{RunsAsked, RunsOr, Works}
+use Rattle.exports.specs.Runs.{RunsAsked, RunsOr, Works}
 
 module _ {S : Type 0} (step : ℕ → S → S → Type 0) (s : S) where
   -- one step more

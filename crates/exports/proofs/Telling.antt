@@ -13,8 +13,8 @@ use Rattle.agreement.specs.Protocols.{Protocol}
 use Rattle.agreement.specs.Slips.{opening}
 use Rattle.exports.specs.declared.flat.FlatSlip.{FlatSlip}
 use Rattle.exports.specs.Flat.{flat_fault, flat_slip}
-use Rattle.exports.specs.Told.{answers_or, blank, lent, written}
-use Rattle.exports.specs.Worked.{RunsAsked}
+use Rattle.exports.specs.Told.{answers_or, blank, lent, slips_written_over}
+use Rattle.exports.specs.Runs.{RunsAsked}
 
 -- a number made of an answer
 pub bit : (b q : Bool) (n : ℕ) → n ≡ bool_byte b → b ≡ q → n ≡ cond q 1 0
@@ -60,7 +60,7 @@ module _ (k n : ℕ) (slips rest : List (Slip ℕ)) (all : n ≡ lent k) (same :
   long = same ∙ blank_length k ∙ sym all
 
   -- slips that were lent come back as they are told
-  pub slips_tell : (old new : List FlatSlip) → k ≡ length old → new ≡ map flat_slip (take n (slips ++ rest)) ++ drop (length (take n (slips ++ rest))) old → new ≡ written slips old
+  pub slips_tell : (old new : List FlatSlip) → k ≡ length old → new ≡ map flat_slip (take n (slips ++ rest)) ++ drop (length (take n (slips ++ rest))) old → new ≡ slips_written_over slips old
   slips_tell old new of is =
       is ∙ ap (λ (l : List (Slip ℕ)). map flat_slip l ++ drop (length l) old) (front n slips rest long) ∙ ap (λ (j : ℕ). map flat_slip slips ++ drop j old) (long ∙ all ∙ ap lent of)
 

@@ -4,5 +4,5 @@ pub mod InTurn
 pub mod Kept
 pub mod Rooms
 pub mod Rowing
+pub mod Runs
 pub mod Told
-pub mod Worked

@@ -10,7 +10,7 @@ use Rattle.exports.specs.declared.flat.FlatSlip.{FlatSlip}
 use Rattle.exports.specs.declared.numbers.RuleNumbers.{RuleNumbers}
 use Rattle.exports.specs.Asked.{asked, clear_asked, no_procedure, no_rule, procedure}
 use Rattle.exports.specs.Flat.{flat_fault, flat_slip}
-use Rattle.exports.specs.Worked.{RunsAsked}
+use Rattle.exports.specs.Runs.{RunsAsked}
 
 -- ---- a rule
 
@@ -38,8 +38,8 @@ abbrev pub blank : ℕ → List (Slip ℕ)
 blank n = take (lent n) (replicate 40 (opening 0))
 
 -- these slips over the front of what is lent
-abbrev pub written : List (Slip ℕ) → List FlatSlip → List FlatSlip
-written slips old = map flat_slip slips ++ drop (lent (length old)) old
+abbrev pub slips_written_over : List (Slip ℕ) → List FlatSlip → List FlatSlip
+slips_written_over slips old = map flat_slip slips ++ drop (lent (length old)) old
 
 -- What a run tells: it has as many slips as are lent, and they are written over what is lent.
 pub record RunTold (r : RuleNumbers) (k : ℕ) (proposals : List ℕ) (each : ℕ) (heard : List ℕ) (table sheet : List FlatSlip) (number : ℕ) (table' sheet' : List FlatSlip) : Type 0 where
@@ -48,5 +48,5 @@ pub record RunTold (r : RuleNumbers) (k : ℕ) (proposals : List ℕ) (each : �
   pub former : List (Slip ℕ)
   pub runs : RunsAsked (no_procedure k r) (procedure k r) proposals each heard (blank (length table)) (blank (length sheet)) answer slips former
   pub told : number ≡ run_number answer
-  pub slips_told : table' ≡ written slips table
-  pub former_told : sheet' ≡ written former sheet
+  pub slips_told : table' ≡ slips_written_over slips table
+  pub former_told : sheet' ≡ slips_written_over former sheet

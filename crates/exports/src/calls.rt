@@ -1,5 +1,5 @@
 // The calls: what they are given and what they tell is numbers and slices.
-ghost use Rattle.std.specs.Prelude.{◌≡◌, ◌++◌, take, true};
+ghost use Rattle.std.specs.Prelude.{◌≡◌, ◌≤◌, ◌++◌, length, take, true};
 ghost use Rattle.office.specs.Answers.{answer};
 ghost use Rattle.office.specs.Printed.{printed};
 ghost use Rattle.exports.specs.Kept.{BookTold};
@@ -113,13 +113,15 @@ fn fill(text: &[u8], room: &mut Room<'_>) -> bool
     write!(room, "{}", Printout::new(text)).is_ok()
 }
 
-// Writes what the seat prints for the text, where there is room enough, and says whether there is and how many bytes it is.
+// Writes what the seat prints for the text, where there is room enough, and says whether there is and how many bytes are written.
 #[unsafe(no_mangle)]
 pub extern "C" fn zotymoi_seat(text: &[u8], room: &mut [u8], written: &mut usize) -> bool
-    ensures { result ≡ true → take written.new room.new ≡ printed (answer text.now) }
+    ensures told { result ≡ true → take written.new room.new ≡ printed (answer text.now) }
+    ensures within { written.new ≤ length room.new }
 {
+    let most = room.len();
     let mut room = Room::new(room);
     let fits = fill(text, &mut room);
-    *written = room.written();
+    *written = room.written().min(most);
     fits
 }

@@ -3,7 +3,7 @@ ghost use Rattle.quorum.specs.Making.{no_roster};
 ghost use Rattle.setup.specs.Kinds.{number_before};
 ghost use Rattle.procedures.specs.Licence.{licensed};
 ghost use Rattle.exports.specs.Asked.{no_procedure, over, procedure as procedure_by};
-ghost use Rattle.exports.specs.Worked.{Runs, RunsAsked, Works};
+ghost use Rattle.exports.specs.Runs.{Runs, RunsAsked, Works};
 
 use crate::numbers::RuleNumbers;
 use crate::parts::{part, parts};

@@ -12,7 +12,7 @@ use Rattle.book.specs.Voting.{Backed, Guards, Loyal}
 use Rattle.agreement.specs.declared.slips.Slip.{Slip}
 use Rattle.agreement.specs.Laws.{Alike, AllAdmitted, AllHold, Course, Lawful, Read, ended}
 use Rattle.agreement.specs.Protocols.{Protocol, beaten}
-use Rattle.agreement.specs.Slips.{Stands, casts, news, opened, setups}
+use Rattle.agreement.specs.Slips.{Stands, casts, news, opened, setups_of_slip}
 use Rattle.agreement.proofs.Entries.{at_dated, at_pick, at_say}
 use Rattle.agreement.proofs.Every.{Every, any_slips, every_beaten, every_entry, every_field, every_sent, from_then, start}
 use Rattle.procedures.specs.Received.{own, received}
@@ -38,10 +38,10 @@ module _ {V : Type 0} {before : V → V → Bool} (o : Ordered before) (f : Fami
   -- ---- one slip
 
   -- every setup of a new slip stood in a slip that it read
-  agreed_reads : (slip : Slip V) (s : ℕ) (table : List (Slip V)) (v : V) → Stands v (setups (agreed (taken s table slip) slip)) → Read slip s table v
+  agreed_reads : (slip : Slip V) (s : ℕ) (table : List (Slip V)) (v : V) → Stands v (setups_of_slip (agreed (taken s table slip) slip)) → Read slip s table v
   agreed_reads slip s table = new_reads slip s table (agreed (taken s table slip) slip) (taken_read slip s table o) (read at_pick) (read at_say) takes takes refl (read at_dated)
     where
-      read : (i : ℕ) → So (Reads slip s table) (entry (setups slip) i)
+      read : (i : ℕ) → So (Reads slip s table) (entry (setups_of_slip slip) i)
       read = had slip s table
 
       takes : So (Reads slip s table) (Some (taken s table slip))

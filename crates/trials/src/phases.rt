@@ -170,7 +170,7 @@ fn a_dated_vote_is_kept_to(rt: HostRuntime) -> Result<(), Fail> {
     Ok(())
 }
 
-// Box 0 over majority.
+// Anchored on box 0, over the majority of three.
 fn anchored() -> Result<Anchored<Majority>, RuleFault> {
     Anchored::new(Majority::new(3)?, 0)
 }

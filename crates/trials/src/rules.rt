@@ -165,7 +165,7 @@ fn anchored(anchor: usize) -> Result<Anchored<Majority>, RuleFault> {
     Anchored::new(Majority::new(3)?, anchor)
 }
 
-// Boxes 0 and 1 over the majority of three.
+// Anchored on boxes 0 and 1, over the majority of three.
 fn twice_anchored() -> Result<Anchored<Anchored<Majority>>, RuleFault> {
     Anchored::new(anchored(0)?, 1)
 }

@@ -52,7 +52,7 @@ pub(crate) fn held<V: Copy>(table: &[Slip<V>; 3]) -> [Option<V>; 3] {
     [a.held, b.held, c.held]
 }
 
-// What the boxes stand for, and would have voted for.
+// What the boxes stand for, and what they would have the others vote for.
 pub(crate) fn picked<V: Copy>(table: &[Slip<V>; 3]) -> ([V; 3], [Option<V>; 3]) {
     let [a, b, c] = table;
     ([a.own, b.own, c.own], [a.pick, b.pick, c.pick])

@@ -3,7 +3,7 @@ use Rattle.quorum.specs.Making.{no_roster}
 use Rattle.setup.specs.Kinds.{number_before}
 use Rattle.procedures.specs.Latest.{latest}
 use Rattle.procedures.specs.Licence.{licensed}
-use Rattle.exports.specs.Worked.{Works}
+use Rattle.exports.specs.Runs.{Works}
 use Rattle.exports.proofs.Steps.{licensed_runs}
 use Rattle.exports.proofs.runs.run_licence.Goals as goal
 

@@ -1,6 +1,6 @@
 use Rattle.std.proofs.Common.{◌≡◌}
 use Rattle.exports.specs.InTurn.{InTurn}
-use Rattle.exports.specs.Worked.{BeatOf}
+use Rattle.exports.specs.Runs.{BeatOf}
 use Rattle.exports.proofs.runs.work.Given as goal
 
 abbrev pub invariant-loop-k : goal.invariant-loop-k
