@@ -45,10 +45,9 @@ pub fn read_at<T, V: Setup, F: Field<T, V>>(field: &F, row: &[T], i: usize) -> O
     field.read(row.get(i)?)
 }
 
-// The one of two that comes first; none comes last. `moves`: of three the first two may be compared before the third is looked at.
+// The one of two that comes first; none comes last.
 pub fn sooner<V: Setup>(a: Option<V>, b: Option<V>) -> Option<V>
-    ensures value { result ≡ sooner_of V.Setup.before a b }
-    ensures moves { (rest : Option V) → sooner_of V.Setup.before result rest ≡ sooner_of V.Setup.before a (sooner_of V.Setup.before b rest) }
+    ensures { result ≡ sooner_of V.Setup.before a b }
 {
     match (a, b) {
         (None, y) => y,

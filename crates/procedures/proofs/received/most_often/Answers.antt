@@ -18,7 +18,7 @@ loop-i-init g c =
 pub loop-i-preserved-in-Some-untried : goal.loop-i-preserved-in-Some-untried
 loop-i-preserved-in-Some-untried g c =
     turn_counts g.met.V.Setup.ordered (map (g.F.Field.reads c.args.field.now) c.args.row.now) c.args.heard _ _ c.in-Some.i c.loop-i.counted c.in-Some.ensures.steps _ c.untried.ensures c.loop-i.most c.in-Some-untried.v _ _ _ _ c.ranges.heard.fits c.loop-i.auto.counted-fits.fits c.in-Some-untried.is
-    c.boxes_with-senders.ensures.value c.size.ensures.value c.sooner-most.ensures.value refl c.loop-i.invariant
+    c.boxes_with-senders.ensures.value c.size.ensures.value c.sooner-most.ensures refl c.loop-i.invariant
 
 pub loop-i-preserved : goal.loop-i-preserved
 loop-i-preserved g c =
