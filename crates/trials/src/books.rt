@@ -1,4 +1,5 @@
 // The book: rows that it takes, and rows that it declines.
+use crate::asserts::assert_equal;
 use crate::refused::refusal;
 use book::books::Book;
 use quorum::majority::Majority;
@@ -21,7 +22,7 @@ fn a_book_of_three(rt: HostRuntime) -> Result<(), Fail> {
     let rule = Majority::new(3)?;
     let mut list = [None; 7];
     let mut book = Book::new(&rule, &mut list);
-    assert_eq!(rt; book.rows(), 2);
+    assert_equal(&rt, book.rows(), 2);
     let five = Some(5);
     let six = Some(6);
     for (votes, decisions, answer, written) in [
@@ -33,9 +34,10 @@ fn a_book_of_three(rt: HostRuntime) -> Result<(), Fail> {
         ([None, None, six], [None; 3], None, 2),
         ([None; 3], [None; 3], Some((9, 0)), 2),
     ] {
-        assert_eq!(rt;
+        assert_equal(
+            &rt,
             enter(&mut book, &rule, &votes, &decisions),
-            (answer, written)
+            (answer, written),
         );
     }
     Ok(())
@@ -47,8 +49,9 @@ fn calls_that_do_not_fit(rt: HostRuntime) -> Result<(), Fail> {
     let other = Majority::new(4)?;
     let mut list = [None; 2];
     let mut book = Book::new(&rule, &mut list);
-    assert_eq!(rt; book.rows(), 0);
-    assert_eq!(rt;
+    assert_equal(&rt, book.rows(), 0);
+    assert_equal(
+        &rt,
         [
             enter(&mut book, &other, &[None; 4], &[None; 2]),
             enter(&mut book, &rule, &[None; 4], &[None; 2]),
@@ -60,7 +63,7 @@ fn calls_that_do_not_fit(rt: HostRuntime) -> Result<(), Fail> {
             (Some((5, 1)), 0),
             (Some((5, 2)), 0),
             (Some((9, 0)), 0),
-        ]
+        ],
     );
     Ok(())
 }

@@ -5,6 +5,8 @@ ghost use Rattle.std.specs.Prelude.{◌≡◌, length};
 ghost use Rattle.trials.specs.Worked.{computed, expected};
 
 #[cfg(test)]
+mod asserts;
+#[cfg(test)]
 mod books;
 #[cfg(test)]
 mod phases;

@@ -1,4 +1,5 @@
 // Runs of the three procedures: what the boxes come to hold, worked out by hand.
+use crate::asserts::assert_equal;
 use crate::runs::{AT_THE_END, finish};
 use crate::setups::card;
 use crate::trios::{Trio, held, own, picked, said, voted};
@@ -95,9 +96,10 @@ fn each_procedure_over_each_rule(rt: HostRuntime) -> Result<(), Fail> {
         (&[7, 5, 4, 6], 15, 4, (0, 4), (0, 4), (4, 4)),
         (&DOWN_FROM_40, BoxSet::MAX, 9, (0, 32), (0, 32), (32, 32)),
     ] {
-        assert_eq!(rt;
+        assert_equal(
+            &rt,
             all_nine(proposals, heard, setup)?,
-            [[fast, observing, latest]; 3]
+            [[fast, observing, latest]; 3],
         );
     }
     Ok(())
@@ -107,7 +109,8 @@ fn each_procedure_over_each_rule(rt: HostRuntime) -> Result<(), Fail> {
 #[test]
 fn a_box_that_is_off(rt: HostRuntime) -> Result<(), Fail> {
     let (majority, thirds) = (Majority::new(3)?, Sizes::thirds(3)?);
-    assert_eq!(rt;
+    assert_equal(
+        &rt,
         [
             two_phases(Observing::new(majority), &[5, 7, 1], 3, 5)?,
             two_phases(Latest::new(majority), &[5, 7, 1], 3, 5)?,
@@ -115,7 +118,7 @@ fn a_box_that_is_off(rt: HostRuntime) -> Result<(), Fail> {
             two_phases(Fast::new(thirds), &[5, 7, 1], 3, 5)?,
             two_phases(Fast::new(Sizes::new(4, 3, 3)?), &[5, 7, 5, 1], 7, 5)?,
         ],
-        [(0, 3), (3, 3), (0, 0), (0, 4)]
+        [(0, 3), (3, 3), (0, 0), (0, 4)],
     );
     Ok(())
 }
@@ -139,7 +142,8 @@ fn phase(
 fn a_dated_vote_is_kept_to(rt: HostRuntime) -> Result<(), Fail> {
     let mut trio = Trio::open(Latest::new(Majority::new(3)?), [5, 7, 1], 0)?;
     let five = Some(5);
-    assert_eq!(rt;
+    assert_equal(
+        &rt,
         phase(&mut trio, [[3, 3, 4], [3, 3, 4], [3, 2, 4]])?,
         (
             [5, 5, 1],
@@ -150,10 +154,11 @@ fn a_dated_vote_is_kept_to(rt: HostRuntime) -> Result<(), Fail> {
                 [five, None, None],
                 [five, None, None],
             ],
-            [Some((0, 5)), Some((0, 5)), None]
-        )
+            [Some((0, 5)), Some((0, 5)), None],
+        ),
     );
-    assert_eq!(rt;
+    assert_equal(
+        &rt,
         phase(&mut trio, [[1, 6, 6], [1, 6, 6], [6, 6, 6]])?,
         (
             [5, 1, 1],
@@ -164,8 +169,8 @@ fn a_dated_vote_is_kept_to(rt: HostRuntime) -> Result<(), Fail> {
                 [five; 3],
                 [five; 3],
             ],
-            [Some((0, 5)), Some((1, 5)), Some((1, 5))]
-        )
+            [Some((0, 5)), Some((1, 5)), Some((1, 5))],
+        ),
     );
     Ok(())
 }
@@ -185,7 +190,7 @@ fn observing_waits(rt: HostRuntime) -> Result<(), Fail> {
         ([3, 9, 5], Some((7, 1)), [3, 1, 2]),
         ([3, 5, 7], None, [1, 2, 1]),
     ] {
-        assert_eq!(rt; (trio.beat(&heard), own(&trio.table)), (answer, owns));
+        assert_equal(&rt, (trio.beat(&heard), own(&trio.table)), (answer, owns));
     }
     Ok(())
 }
@@ -194,11 +199,12 @@ fn observing_waits(rt: HostRuntime) -> Result<(), Fail> {
 #[test]
 fn latest_waits_for_nobody(rt: HostRuntime) -> Result<(), Fail> {
     let mut trio = Trio::open(Latest::new(anchored()?), [3, 1, 2], 0)?;
-    assert_eq!(rt;
+    assert_equal(
+        &rt,
         [trio.beat(&[0, 8, 0]), trio.beat(&[0, 4, 6])],
-        [Some((7, 1)), None]
+        [Some((7, 1)), None],
     );
-    assert_eq!(rt; picked(&trio.table), ([3, 2, 1], [None; 3]));
+    assert_equal(&rt, picked(&trio.table), ([3, 2, 1], [None; 3]));
     Ok(())
 }
 
@@ -223,14 +229,19 @@ fn cards_are_agreed_on(rt: HostRuntime) -> Result<(), Fail> {
     let (majority, thirds) = (Majority::new(3)?, Sizes::thirds(3)?);
     let (first, second, third) = (card(7, -20, 1), card(7, 5, 1), card(8, -20, 1));
     let cards = &[third, second, first];
-    assert_eq!(rt;
+    assert_equal(
+        &rt,
         [
             // box 2 is not heard in beat 0
             agreed(Latest::new(majority), cards, &[[3; 3], [7; 3], [7; 3]])?,
             agreed(Fast::new(thirds), cards, &[[7; 3], [7; 3]])?,
-            agreed(Observing::new(majority), cards, &[[7; 3], [6; 3], [3; 3], [5; 3]])?,
+            agreed(
+                Observing::new(majority),
+                cards,
+                &[[7; 3], [6; 3], [3; 3], [5; 3]],
+            )?,
         ],
-        [[Some(second); 3], [Some(first); 3], [Some(first); 3]]
+        [[Some(second); 3], [Some(first); 3], [Some(first); 3]],
     );
     Ok(())
 }
@@ -251,9 +262,9 @@ fn licences_that_do_not_fit(rt: HostRuntime) {
         (4, &[4, 2, 6], (5, 1, Layer::Run)),
         (2, &[4, 2], (5, 2, Layer::Run)),
     ] {
-        assert_eq!(rt; licence(boxes, proposals, &mut table), Some(answer));
+        assert_equal(&rt, licence(boxes, proposals, &mut table), Some(answer));
     }
-    assert_eq!(rt; own(&table), [0; 3]);
+    assert_equal(&rt, own(&table), [0; 3]);
 }
 
 // A majority without the shaft's box 0 decides nothing under the standard licence.
@@ -266,9 +277,10 @@ fn the_standard_licence(rt: HostRuntime) -> Result<(), Fail> {
         table,
         sheet: [Slip::opening(0); 3],
     };
-    assert_eq!(rt;
+    assert_equal(
+        &rt,
         [trio.work(&[[6; 3]; 3])?, trio.work(&[[5; 3]; 3])?],
-        [[None; 3], [Some(2); 3]]
+        [[None; 3], [Some(2); 3]],
     );
     Ok(())
 }
@@ -277,10 +289,11 @@ fn the_standard_licence(rt: HostRuntime) -> Result<(), Fail> {
 fn the_last_phase_of_latest(rt: HostRuntime) -> Result<(), Fail> {
     let mut table = [Slip::opening(0)];
     let mut run = licence::open(1, &[4], &mut table)?;
-    assert_eq!(rt; finish(&mut run, &mut table, 3 * 65_536)?, AT_THE_END);
-    assert_eq!(rt;
+    assert_equal(&rt, finish(&mut run, &mut table, 3 * 65_536)?, AT_THE_END);
+    assert_equal(
+        &rt,
         (table[0].dated, table[0].held),
-        (Some((65_535, 4)), Some(4))
+        (Some((65_535, 4)), Some(4)),
     );
     Ok(())
 }

@@ -1,4 +1,5 @@
 // Sets of boxes, refusals, and the rules.
+use crate::asserts::assert_equal;
 use crate::refused;
 use quorum::anchored::Anchored;
 use quorum::majority::Majority;
@@ -25,10 +26,10 @@ fn sets_of_boxes(rt: HostRuntime) {
         (u32::MAX, 32, false),
         (u32::MAX, usize::MAX, false),
     ] {
-        assert_eq!(rt; sets::contains(set, i), inside);
+        assert_equal(&rt, sets::contains(set, i), inside);
     }
     for (set, size) in [(0, 0), (5, 2), (0x8000_0000, 1), (u32::MAX, 32)] {
-        assert_eq!(rt; sets::size(set), size);
+        assert_equal(&rt, sets::size(set), size);
     }
     for (set, n, fits) in [
         (0, 0, true),
@@ -39,7 +40,7 @@ fn sets_of_boxes(rt: HostRuntime) {
         (u32::MAX, 32, true),
         (u32::MAX, 33, true),
     ] {
-        assert_eq!(rt; sets::fits(set, n), fits);
+        assert_equal(&rt, sets::fits(set, n), fits);
     }
     for (n, all) in [
         (0, 0),
@@ -48,7 +49,7 @@ fn sets_of_boxes(rt: HostRuntime) {
         (32, u32::MAX),
         (33, u32::MAX),
     ] {
-        assert_eq!(rt; sets::all_below(n), all);
+        assert_equal(&rt, sets::all_below(n), all);
     }
 }
 
@@ -61,15 +62,16 @@ fn faults_report(rt: HostRuntime) {
     ] {
         let layer = Layer::Rule;
         let place = 0;
-        assert_eq!(rt;
+        assert_equal(
+            &rt,
             Fault::from(fault),
             Fault {
                 refusal,
                 layer,
                 place,
-            }
+            },
         );
-        assert_eq!(rt; refusal.number(), number);
+        assert_equal(&rt, refusal.number(), number);
     }
 }
 
@@ -82,9 +84,9 @@ fn rosters(rt: HostRuntime) {
         (33, Some(1)),
         (usize::MAX, Some(1)),
     ] {
-        assert_eq!(rt; refusal(Majority::new(boxes)), number);
-        assert_eq!(rt; refusal(Sizes::thirds(boxes)), number);
-        assert_eq!(rt; refusal(Sizes::new(boxes, boxes, boxes)), number);
+        assert_equal(&rt, refusal(Majority::new(boxes)), number);
+        assert_equal(&rt, refusal(Sizes::thirds(boxes)), number);
+        assert_equal(&rt, refusal(Sizes::new(boxes, boxes, boxes)), number);
     }
 }
 
@@ -101,7 +103,7 @@ fn sizes_at_their_edges(rt: HostRuntime) {
         (0, 0, Some(3)),
         (usize::MAX, usize::MAX, Some(3)),
     ] {
-        assert_eq!(rt; refusal(Sizes::new(5, e, t)), number);
+        assert_equal(&rt, refusal(Sizes::new(5, e, t)), number);
     }
     for (n, e, t, number) in [
         (0, 9, 1, Some(1)),
@@ -112,7 +114,7 @@ fn sizes_at_their_edges(rt: HostRuntime) {
         (32, 16, 32, Some(3)),
         (33, 1, 9, Some(1)),
     ] {
-        assert_eq!(rt; refusal(Sizes::new(n, e, t)), number);
+        assert_equal(&rt, refusal(Sizes::new(n, e, t)), number);
     }
 }
 
@@ -139,7 +141,7 @@ fn quorums_by_count(rt: HostRuntime) {
         (32, 0xffff, false),
         (32, 0x1_ffff, true),
     ] {
-        assert_eq!(rt; by_majority(n, set), Ok(quorum));
+        assert_equal(&rt, by_majority(n, set), Ok(quorum));
     }
     for (n, set, quorum) in [
         (1, 1, true),
@@ -153,10 +155,10 @@ fn quorums_by_count(rt: HostRuntime) {
         (32, 0x3f_ffff, true),
         (32, 0x1f_ffff, false),
     ] {
-        assert_eq!(rt; by_sizes(Sizes::thirds(n), set), Ok((quorum, quorum)));
+        assert_equal(&rt, by_sizes(Sizes::thirds(n), set), Ok((quorum, quorum)));
     }
     for (set, quorum, clear) in [(15, true, false), (21, true, false), (31, true, true)] {
-        assert_eq!(rt; by_sizes(Sizes::new(5, 3, 5), set), Ok((quorum, clear)));
+        assert_equal(&rt, by_sizes(Sizes::new(5, 3, 5), set), Ok((quorum, clear)));
     }
 }
 
@@ -189,7 +191,7 @@ fn all_of_32(set: BoxSet) -> Result<bool, RuleFault> {
 #[test]
 fn layered_rules(rt: HostRuntime) {
     for (anchor, number) in [(0, None), (2, None), (3, Some(4)), (usize::MAX, Some(4))] {
-        assert_eq!(rt; refusal(anchored(anchor)), number);
+        assert_equal(&rt, refusal(anchored(anchor)), number);
     }
     for (set, quorum, clear) in [
         (3, true, false),
@@ -199,23 +201,25 @@ fn layered_rules(rt: HostRuntime) {
         (11, false, false),
         (15, false, false),
     ] {
-        assert_eq!(rt; layered(set), Ok((quorum, quorum, clear)));
+        assert_equal(&rt, layered(set), Ok((quorum, quorum, clear)));
     }
-    assert_eq!(rt;
+    assert_equal(
+        &rt,
         [all_of_32(u32::MAX), all_of_32(u32::MAX - 1)],
-        [Ok(true), Ok(false)]
+        [Ok(true), Ok(false)],
     );
 }
 
 // How many boxes a rule has that is made of others.
 #[test]
 fn boxes_of_rules(rt: HostRuntime) -> Result<(), Fail> {
-    assert_eq!(rt;
+    assert_equal(
+        &rt,
         [
             Sizes::new(5, 3, 5)?.boxes(),
             AllPresent::new(twice_anchored()?).boxes(),
         ],
-        [5, 3]
+        [5, 3],
     );
     Ok(())
 }

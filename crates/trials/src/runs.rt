@@ -1,4 +1,5 @@
 // Runs of Unison: what their calls answer, and what table, sheet and clock then hold.
+use crate::asserts::assert_equal;
 use crate::refused::refusal;
 use crate::setups::card;
 use crate::trios::{Trio, held, own};
@@ -36,17 +37,18 @@ fn openings_that_do_not_fit(rt: HostRuntime) {
     };
     let mut three = [nine; 3];
     let mut two = [nine; 2];
-    assert_eq!(rt;
+    assert_equal(
+        &rt,
         [
             opening(&[5, 2], &mut two),
             opening(&[5, 2, 7], &mut two),
             opening(&[5, 2], &mut three),
         ],
-        [Some((5, 1)), Some((5, 2)), Some((5, 1))]
+        [Some((5, 1)), Some((5, 2)), Some((5, 1))],
     );
-    assert_eq!(rt; (two[0].own, own(&three)), (9, [9; 3]));
-    assert_eq!(rt; opening(&[5, 2, 7], &mut three), None);
-    assert_eq!(rt; (own(&three), held(&three)), ([5, 2, 7], [None; 3]));
+    assert_equal(&rt, (two[0].own, own(&three)), (9, [9; 3]));
+    assert_equal(&rt, opening(&[5, 2, 7], &mut three), None);
+    assert_equal(&rt, (own(&three), held(&three)), ([5, 2, 7], [None; 3]));
 }
 
 #[test]
@@ -67,13 +69,15 @@ fn beats_of_three(rt: HostRuntime) -> Result<(), Fail> {
         (&[8, 0], Some((5, 3)), 0, [5, 2, 7], [None; 3], [0; 3]),
         (&[7, 7, 7], None, 1, [2; 3], [Some(2); 3], [5, 2, 7]),
     ] {
-        assert_eq!(rt;
+        assert_equal(
+            &rt,
             (trio.beat(heard), trio.run.due()),
-            (answer, Clock { phase, beat: 0 })
+            (answer, Clock { phase, beat: 0 }),
         );
-        assert_eq!(rt;
+        assert_equal(
+            &rt,
             (own(&trio.table), held(&trio.table), own(&trio.sheet)),
-            (owns, holds, former)
+            (owns, holds, former),
         );
     }
     Ok(())
@@ -85,14 +89,15 @@ fn tables_that_do_not_fit(rt: HostRuntime) -> Result<(), Fail> {
     let mut sheet = [Slip::opening(0); 3];
     let mut two = [Slip::opening(0); 2];
     let mut run = opened(&[5, 2, 7], &mut table)?;
-    assert_eq!(rt;
+    assert_equal(
+        &rt,
         [
             refusal(run.beat(&mut two, &mut sheet, &[7, 7, 7])),
             refusal(run.beat(&mut table, &mut two, &[7, 7])),
             refusal(run.read(&two, 2)),
             refusal(run.read(&two, 3)),
         ],
-        [Some((5, 1)), Some((5, 2)), Some((5, 1)), Some((4, 0))]
+        [Some((5, 1)), Some((5, 2)), Some((5, 1)), Some((4, 0))],
     );
     Ok(())
 }
@@ -116,15 +121,15 @@ fn reads(rt: HostRuntime) -> Result<(), Fail> {
         [5, 2, 7],
         0,
     )?;
-    assert_eq!(rt; read(&trio.run, &trio.table, 2), Ok((7, None)));
-    assert_eq!(rt; trio.beat(&[7; 3]), None);
+    assert_equal(&rt, read(&trio.run, &trio.table, 2), Ok((7, None)));
+    assert_equal(&rt, trio.beat(&[7; 3]), None);
     for (i, answer) in [
         (0, Ok((2, Some(2)))),
         (2, Ok((2, Some(2)))),
         (3, Err(RunFault::NoBox)),
         (usize::MAX, Err(RunFault::NoBox)),
     ] {
-        assert_eq!(rt; read(&trio.run, &trio.table, i), answer);
+        assert_equal(&rt, read(&trio.run, &trio.table, i), answer);
     }
     Ok(())
 }
@@ -164,8 +169,8 @@ fn the_last_phase(rt: HostRuntime) -> Result<(), Fail> {
     let rule = Majority::new(1)?;
     let mut table = [Slip::opening(0)];
     let mut run = Run::open(Unison { rule }, &[4], &mut table)?;
-    assert_eq!(rt; finish(&mut run, &mut table, 65_536)?, AT_THE_END);
-    assert_eq!(rt; run.read(&table, 0)?.held, Some(4));
+    assert_equal(&rt, finish(&mut run, &mut table, 65_536)?, AT_THE_END);
+    assert_equal(&rt, run.read(&table, 0)?.held, Some(4));
     Ok(())
 }
 
@@ -194,9 +199,10 @@ fn cards_and_their_book(rt: HostRuntime) -> Result<(), Fail> {
     let mut book = Book::new(&rule, &mut list);
     let mut run = Run::open(Unison { rule }, &[later, sooner], &mut table)?;
     for rows in 1..3 {
-        assert_eq!(rt;
+        assert_equal(
+            &rt,
             enter(&mut run, &mut table, &mut sheet, &mut book)?,
-            ([Some(sooner); 2], None, rows)
+            ([Some(sooner); 2], None, rows),
         );
     }
     Ok(())

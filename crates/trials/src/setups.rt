@@ -1,4 +1,5 @@
 // Kinds of setup, and the search at each.
+use crate::asserts::assert_equal;
 use setup::cards::Card;
 use setup::orders::Setup;
 use setup::search::{Optional, Plain, first};
@@ -25,7 +26,7 @@ fn orders(rt: HostRuntime) {
         (4, 4, false),
         (0, u32::MAX, true),
     ] {
-        assert_eq!(rt; a.comes_before(&b), before);
+        assert_equal(&rt, a.comes_before(&b), before);
     }
     for (a, b, before) in [
         ((2, 4u32), (0, 9), true),
@@ -34,7 +35,7 @@ fn orders(rt: HostRuntime) {
         ((3, 9), (3, 4), false),
         ((3, 4), (3, 4), false),
     ] {
-        assert_eq!(rt; a.comes_before(&b), before);
+        assert_equal(&rt, a.comes_before(&b), before);
     }
 }
 
@@ -63,7 +64,7 @@ fn search_at_numbers(rt: HostRuntime) {
         (8, None),
         (0xffff_fff9, Some(3)),
     ] {
-        assert_eq!(rt; first(&Plain, &[3, 1, 2], set), found);
+        assert_equal(&rt, first(&Plain, &[3, 1, 2], set), found);
     }
     for (set, found) in [
         (5, None),
@@ -71,19 +72,19 @@ fn search_at_numbers(rt: HostRuntime) {
         (7, Some(5)),
         (u32::MAX, Some(5)),
     ] {
-        assert_eq!(rt; first(&Optional, &[None, Some(5), None], set), found);
+        assert_equal(&rt, first(&Optional, &[None, Some(5), None], set), found);
     }
     let mut long = [9u32; 40];
     long[31] = 8;
     long[32] = 1;
-    assert_eq!(rt; first(&Plain, &long, u32::MAX), Some(8));
+    assert_equal(&rt, first(&Plain, &long, u32::MAX), Some(8));
 }
 
 #[test]
 fn search_at_cards_and_dated_votes(rt: HostRuntime) {
     let cards = [card(8, -9000, 0), card(7, 3, 9), card(7, -3, 9)];
     for (set, found) in [(3, 1), (7, 2), (1, 0), (5, 2)] {
-        assert_eq!(rt; first(&Plain, &cards, set), Some(cards[found]));
+        assert_equal(&rt, first(&Plain, &cards, set), Some(cards[found]));
     }
     let votes = [Some((0, 9u32)), Some((2, 4)), None, Some((2, 3))];
     for (set, found) in [
@@ -93,6 +94,6 @@ fn search_at_cards_and_dated_votes(rt: HostRuntime) {
         (4, None),
         (0xffff_fff0, None),
     ] {
-        assert_eq!(rt; first(&Optional, &votes, set), found);
+        assert_equal(&rt, first(&Optional, &votes, set), found);
     }
 }

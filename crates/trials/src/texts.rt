@@ -1,4 +1,5 @@
 // The reading of a text where no answer to a text shows it: the classes of bytes, a reader that reads on after a refusal, and faults that no text brings about.
+use crate::asserts::assert_equal;
 use agreement::faults::RunFault;
 use quorum::refusals::Layer;
 use shift::classes::{Class, classify};
@@ -29,7 +30,7 @@ fn classes(rt: HostRuntime) {
         (0, Class::Other),
         (255, Class::Other),
     ] {
-        assert_eq!(rt; classify(b), class);
+        assert_equal(&rt, classify(b), class);
     }
 }
 
@@ -54,28 +55,31 @@ fn fault(cause: Cause, line: usize, column: usize) -> TextFault {
 #[test]
 fn lines_in_turn(rt: HostRuntime) {
     let mut reader = Reader::new(b"boxes=2\nrule=thirds\nbeat=1,x\n");
-    assert_eq!(rt;
+    assert_equal(
+        &rt,
         (
             reader.at_end(),
             due(&mut reader, b"rule"),
-            due(&mut reader, b"boxes")
+            due(&mut reader, b"boxes"),
         ),
-        (false, Err::<u32, _>(fault(Cause::Key, 1, 1)), Ok(2u32))
+        (false, Err::<u32, _>(fault(Cause::Key, 1, 1)), Ok(2u32)),
     );
-    assert_eq!(rt; due(&mut reader, b"rule"), Ok(RuleName::Thirds));
+    assert_equal(&rt, due(&mut reader, b"rule"), Ok(RuleName::Thirds));
     let mut list = Numbers::empty();
     let _ = list.push(7);
-    assert_eq!(rt;
+    assert_equal(
+        &rt,
         (
             heard(&mut reader, &mut list),
             list.as_slice().is_empty(),
-            reader.at_end()
+            reader.at_end(),
         ),
-        (Err(fault(Cause::Value, 3, 6)), true, true)
+        (Err(fault(Cause::Value, 3, 6)), true, true),
     );
-    assert_eq!(rt;
+    assert_equal(
+        &rt,
         due::<u32>(&mut reader, b"beat"),
-        Err(fault(Cause::Key, 4, 1))
+        Err(fault(Cause::Key, 4, 1)),
     );
 }
 
@@ -83,11 +87,12 @@ fn lines_in_turn(rt: HostRuntime) {
 fn printed_faults(rt: HostRuntime) -> Result<(), Fail> {
     let spot = Spot { line: 1, column: 7 };
     let placed = TextFault::from((RunFault::Wait(2), spot)).to_string(rt.alloc())?;
-    assert_eq!(rt;
+    assert_equal(
+        &rt,
         placed.as_str(),
-        "fault=8\nlayer=run\nplace=2\nline=1\ncolumn=7"
+        "fault=8\nlayer=run\nplace=2\nline=1\ncolumn=7",
     );
     let book = Layer::Book.to_string(rt.alloc())?;
-    assert_eq!(rt; book.as_str(), "book");
+    assert_equal(&rt, book.as_str(), "book");
     Ok(())
 }
