@@ -1,5 +1,5 @@
 // What the calls lend to the library, and how it is written back: slips and entries of their own.
-ghost use Rattle.std.specs.Prelude.{◌≡◌, ◌≤◌, ◌++◌, None, drop, length, map, min, replicate, take};
+ghost use Rattle.std.specs.Prelude.{◌≡◌, ◌≤◌, ◌++◌, drop, length, map, min, replicate, take};
 ghost use Rattle.agreement.specs.Slips.{opening};
 ghost use Rattle.exports.specs.Flat.{flat_slip};
 ghost use Rattle.exports.specs.Kept.{entries_of};
@@ -29,16 +29,13 @@ pub(crate) fn tell(slips: &[Slip<u32>], lent: &mut [FlatSlip])
 // How many entries a book can be lent, and how many votes and decisions can be given.
 const ENTRIES: usize = 2048;
 
-// Entries before anything is read into them.
-pub(crate) fn blank_entries() -> [Option<u32>; ENTRIES]
-    ensures { result ≡ replicate 2048 None }
-{
+// Entries before anything is read into them: what they hold then nobody sees.
+pub(crate) fn blank_entries() -> [Option<u32>; ENTRIES] {
     [None; ENTRIES]
 }
 
 // Reads the numbers into the entries, as many as there are.
-pub(crate) fn read_entries(numbers: &[u64], entries: &mut [Option<u32>]) -> usize
-    requires { length entries.old ≡ 2048 }
+pub(crate) fn read_entries(numbers: &[u64], entries: &mut [Option<u32>; ENTRIES]) -> usize
     ensures number { result ≡ min (length numbers.now) 2048 }
     ensures entries { take result entries.new ≡ entries_of numbers.now }
 {
