@@ -1,4 +1,4 @@
-// What the tests assert, as a function: the macro, written out in each test, makes a test about twice as long to prove.
+// What the tests assert, as a function: the macro, written out in each test, takes longer to prove.
 use std::fmt::Debug;
 use std::process::Abort;
 
