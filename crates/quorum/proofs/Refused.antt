@@ -1,5 +1,5 @@
 -- Checks in their order: the first that fails is the answer. Assumes nothing.
-use Rattle.std.proofs.Common.{◌≡◌, Bool, true, false, Some, None, Ok, Err, Option, Result, sym, refl, subst}
+use Rattle.std.proofs.Common.{◌≡◌, Bool, true, false, Some, None, Ok, Err, Option, Result, IsErrAnd, sym, refl, ◌∙◌, subst}
 use Rattle.std.specs.Option.{option_map}
 use Rattle.quorum.specs.Refusals.{Answers, Does, either, unless}
 use Rattle.quorum.proofs.Somes.{some_is, some_none}
@@ -44,6 +44,20 @@ does_none {F} reason done kept answer e h = go answer (subst (λ (o : Option F).
 pub value_of : {X F : Type 0} (reason : Option F) (P : X → Type 0) (x : X) → Answers reason P (Ok x) → P x
 value_of None P x h = h
 value_of (Some g) P x h = absurd h
+
+-- ---- a call that passes on by `?` what another call declined with
+
+-- what is said of the answer passed on holds of its own
+pub passed_on : {X F : Type 0} (P : Result X F → Type 0) (answer : Result X F) (f : F) → IsErrAnd answer (λ e. e ≡ f) → P (Err f) → P answer
+passed_on {X} {F} P (Ok x) f e h = absurd e
+passed_on {X} {F} P (Err g) f e h = subst (λ (x : F). P (Err x)) (sym e) h
+
+-- it declines for the same reason
+pub declined_does : {X Y F : Type 0} (reason : Option F) (P : X → Type 0) (done : Y → Type 0) (kept : Type 0) (answer : Result Y F) (f : F)
+    → IsErrAnd answer (λ e. e ≡ f) → Answers reason P (Err f) → kept → Does reason done kept answer
+declined_does None P done kept answer f e h k = absurd h
+declined_does (Some g) P done kept (Ok y) f e h k = absurd e
+declined_does (Some g) P done kept (Err x) f e h k = (e ∙ h, k)
 
 -- ---- what holds of the fault of each check holds of the answer
 
