@@ -1,17 +1,21 @@
 -- Where the rows stand in the list, and what a new one leaves. Assumes nothing.
-use Rattle.std.proofs.Common.{◌≡◌, ℕ, suc, ◌+◌, ◌-◌, ◌*◌, ◌/◌, ◌<◌, ◌≤◌, List, ◌++◌, length, take, drop, Option, ap, ◌∙◌, le_refl, mul-le-mul_right, suc-mul, div-mul-le_self, arith}
+use Rattle.std.proofs.Common.{◌≡◌, ℕ, suc, ◌+◌, ◌-◌, ◌*◌, ◌/◌, ◌<◌, ◌≤◌, List, ◌++◌, length, take, drop, Option, ap, ◌∙◌, le_refl, mul-le-mul_right, suc-mul, div-mul-le_self, arith, add-one}
 use Rattle.std.proofs.lemmas.List.{append_assoc, drop-append-le, drop_at, drop-take, length-append, length-drop, length-take, length-take-le, take-append-le, take_at, take-take}
 use Rattle.book.specs.Pages.{Pages, extended, row, rows}
 
 -- a row ends where the next begins
-row_ends : (r m n k : ℕ) → r < m → m * n ≤ k → r * n + n ≤ k
+pub row_ends : (r m n k : ℕ) → r < m → m * n ≤ k → r * n + n ≤ k
 row_ends r m n k lt le =
     let next : suc r * n ≤ m * n = mul-le-mul_right n lt in
     omega (arith, suc-mul r n)
 
 -- a list of k entries has room for row r
-row_fits : (r n k : ℕ) → r < k / n → r * n + n ≤ k
+pub row_fits : (r n k : ℕ) → r < k / n → r * n + n ≤ k
 row_fits r n k lt = row_ends r (k / n) n k lt (div-mul-le_self k n)
+
+-- and for one more than r rows
+pub row_counted : (r n k : ℕ) → r < k / n → (r + 1) * n ≤ k
+row_counted r n k lt = rw add-one (omega (arith, suc-mul r n, row_fits r n k lt))
 
 -- each row before the last that it has room for is full
 pub length_row : {V : Type 0} (b : Pages V) (r : ℕ) → r < b.written → b.written < rows b → length (row b r) ≡ b.boxes
