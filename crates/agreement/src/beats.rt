@@ -39,6 +39,7 @@ fn admit<'a, V: Setup, P: Procedure<V>>(
 
 // Takes the beat and moves the clock on, or declines it.
 // Table and sheet stay two lists, as the caller has them: a struct would be made at each call to be taken apart here.
+#[tactic(auto, using(quorum::proofs::Refused::declined_does))]
 pub(crate) fn close<V: Setup, P: Procedure<V>>(
     procedure: &P,
     clock: &mut Clock,

@@ -10,7 +10,6 @@ use crate::slips::Slip;
 use setup::orders::Setup;
 
 // The table at the opening. By index and not by `zip`: over that a loop's invariant has no name for the table.
-#[tactic(auto, using(crate::proofs::Overwriting::over_next, crate::proofs::Entries::opened_at))]
 pub(crate) fn fill<V: Setup>(proposals: &[V], table: &mut [Slip<V>])
     requires { length proposals.now ≡ length table.old }
     ensures { table.new ≡ opened proposals.now }
