@@ -5,6 +5,7 @@ pub mod Histories
 pub mod Lines
 pub mod Numbering
 pub mod Offering
+pub mod Passing
 pub mod Printing
 pub mod Setups
 pub mod Steps

@@ -16,7 +16,6 @@ use shift::reader::Reader;
 
 impl<'a> Answer<'a> {
     // The answer to a text, at the first thing that is shown. Whatever the text is, its phases come in order, and the setups that are shown as held agree.
-    #[tactic(auto, using(crate::proofs::Agreeing::agreed))]
     pub fn new(text: &'a [u8]) -> Answer<'a>
         ensures answers { to_come result ≡ answer text.now }
         ensures agreed { Agreed (proposals text.now) (answer text.now) }

@@ -1,4 +1,4 @@
-use Rattle.std.proofs.Common.{◌≡◌, true, subst, sym, ap, ◌∙◌}
+use Rattle.std.proofs.Common.{◌≡◌, true, refl, subst, sym, ap, ◌∙◌}
 use Rattle.shift.specs.Lines.{left}
 use Rattle.shift.specs.Lists.{listed}
 use Rattle.office.specs.Answers.{outcome}
@@ -29,3 +29,11 @@ returns-in-Err-clause-comes c =
     let w = c.in-Working.work in
     let short = subst (λ s. within_limit s r.text.now ≡ true) c.in-Working.is c.requires in
     sym (ap (λ s. ahead s r) c.in-Working.is ∙ fault_next (meant w.run.procedure) (moment w) r.line (left r) r.text.now short c.if-not-at_end.ensures c.in-Err.fault c.in-Err.ensures.value)
+
+pub returns-in-Ok-clause-short : goal.returns-in-Ok-clause-short
+returns-in-Ok-clause-short c =
+    let short = subst (λ s. within_limit s c.args.reader.now.text.now ≡ true) c.in-Working.is c.requires in
+    rw c.in-Ok.ensures.read.0 short
+
+pub returns-in-Err-clause-short : goal.returns-in-Err-clause-short
+returns-in-Err-clause-short c = refl
