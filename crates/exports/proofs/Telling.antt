@@ -1,7 +1,7 @@
 -- What the calls tell. Assumes nothing.
 use Rattle.std.proofs.Common.{◌≡◌, ℕ, zero, suc, ◌+◌, ◌*◌, ◌≤◌, Bool, true, false, cond, List, [], ◌∷◌, ◌++◌, length, map, replicate, take, drop, Some, None, Ok, Err, Option, Result, refl, sym, ap, ◌∙◌, subst, arith}
 use mir.Val.{bool_byte}
-use Rattle.std.proofs.lemmas.List.{length-take-le}
+use Rattle.std.proofs.lemmas.List.{length-append, length-take, length-take-le}
 use Rattle.quorum.specs.declared.refusals.RuleFault.{RuleFault}
 use Rattle.quorum.specs.declared.chosen.ChosenRule.{ChosenRule}
 use Rattle.quorum.specs.Chosen.{clear_of, family_of}
@@ -44,6 +44,16 @@ front (suc n) [] rest same = absurd (omega arith)
 front (suc n) (x ∷ xs) rest same = ap (λ l. x ∷ l) (front n xs rest (omega arith))
 
 -- ---- a run
+
+-- what a run is lent is there, and so is what it leaves
+pub lent_room : (k n : ℕ) (slips : List (Slip ℕ)) → n ≡ lent k → slips ≡ replicate 40 (opening 0) → n ≤ length slips
+lent_room k n slips all is = omega (arith, all, ap length is)
+
+pub left_room : {A : Type 0} (n : ℕ) (xs rest : List A) → length xs ≡ n → n ≤ length (xs ++ rest)
+left_room n xs rest same = omega (arith, length-append xs rest)
+
+pub front_within : {A : Type 0} (n k : ℕ) (xs : List A) → n ≤ k → length (take n xs) ≤ k
+front_within n k xs le = omega (arith, length-take n xs)
 
 -- what a run is lent, as the code has it
 pub lent_slips : (k n : ℕ) (slips : List (Slip ℕ)) → n ≡ lent k → slips ≡ replicate 40 (opening 0) → take n slips ≡ blank k
